@@ -1,0 +1,4 @@
+pub mod Gathering
+pub mod Known
+pub mod Moved
+pub mod Putting

@@ -1,0 +1,7 @@
+use Rattle.std.proofs.Common.{Ok, take}
+use Rattle.vsm_base.specs.Whole.{Gathers}
+use Rattle.vsm_base.proofs.text_buffer.TextBuffer.put.Given as goal
+
+abbrev pub invariant-loop-byte : goal.invariant-loop-byte
+invariant-loop-byte g l =
+    Gathers (g.K.Sink.taken l.fn.sink) l.fn.self (g.K.Sink.taken l.sink) l.self (g.K.Sink.faults l.fn.sink) (g.K.Sink.faults l.sink) (Ok tt) (take l.byte-index l.text)

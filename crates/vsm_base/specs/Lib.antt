@@ -1,0 +1,6 @@
+pub mod InMemory
+pub mod Levels
+pub mod Masks
+pub mod Names
+pub mod Outside
+pub mod Whole

@@ -1,0 +1,43 @@
+-- An input that is read to its end, and a text that is written whole or in part.
+use Rattle.std.specs.Prelude.{◌≡◌, ℕ, ◌+◌, ◌≤◌, List, ◌++◌, length, take, Option, Result, OnErr, OnOk}
+use Rattle.std.specs.Io.KnownBytes.{prepend_known, append_known}
+use Rattle.vsm_base.specs.Outside.{IsAtEnd, Rose}
+use Rattle.vsm_base.specs.declared.whole.WriteFailed.{WriteFailed}
+
+-- the most bytes that an input may have
+abbrev pub limit : ℕ
+limit = 1048576
+
+-- these bytes came, and nothing is left
+pub record ReadsWhole (old new : Option (List ℕ)) (bytes : List ℕ) : Type 0 where
+  pub came : old ≡ prepend_known bytes new
+  pub at_end : IsAtEnd new
+  pub short : length bytes ≤ limit
+
+-- one byte more than the limit came
+pub record ReadsTooMuch (old new : Option (List ℕ)) : Type 0 where
+  pub bytes : List ℕ
+  pub came : old ≡ prepend_known bytes new
+  pub long : length bytes ≡ limit + 1
+
+-- a front of the text was appended
+abbrev pub AppendsFront : Option (List ℕ) → Option (List ℕ) → List ℕ → Type 0
+AppendsFront old new text = (n : ℕ) × (new ≡ append_known old (take n text))
+
+-- the text was written whole, or where a write failed a front of it; the count of faults says where one did
+pub record Puts (old new : Option (List ℕ)) (before now : ℕ) (result : Result (Unit {0}) WriteFailed) (text : List ℕ) : Type 0 where
+  pub whole : OnOk result (new ≡ append_known old text)
+  pub front : OnErr result (AppendsFront old new text)
+  pub later : before ≤ now
+  pub risen : OnErr result (Rose before now)
+
+-- of what was held and the text behind it, a front went and the rest is held
+abbrev pub Passes : Option (List ℕ) → List ℕ → Option (List ℕ) → List ℕ → List ℕ → Type 0
+Passes old held new kept text = (went : List ℕ) × (new ≡ append_known old went) × (went ++ kept ≡ held ++ text)
+
+-- the text was added behind what was held, or where a write failed a front of both went; the count of faults says where one did
+pub record Gathers (old : Option (List ℕ)) (held : List ℕ) (new : Option (List ℕ)) (kept : List ℕ) (before now : ℕ) (result : Result (Unit {0}) WriteFailed) (text : List ℕ) : Type 0 where
+  pub whole : OnOk result (Passes old held new kept text)
+  pub front : OnErr result (AppendsFront old new (held ++ text))
+  pub later : before ≤ now
+  pub risen : OnErr result (Rose before now)

@@ -1,0 +1,64 @@
+// Text that is gathered before it goes to a sink.
+ghost use Rattle.std.specs.Prelude.{◌≡◌, [], ◌∷◌, OnOk};
+ghost use Rattle.vsm_base.specs.Whole.{Puts, Gathers};
+
+use crate::{Sink, WriteFailed, put_whole};
+use arrayvec::ArrayVec;
+use std::marker::Model;
+
+const CAPACITY: usize = 4096;
+
+/// Text on its way to a sink, of which at most 4,096 bytes are held. Contracts see the bytes that are held.
+#[derive(Drop)]
+pub struct TextBuffer {
+    bytes: ArrayVec<u8, CAPACITY>,
+}
+
+impl Model for TextBuffer {
+    ghost use Rattle.std.specs.Prelude.{List, ℕ};
+
+    ghost Value = { List ℕ };
+
+    ghost view = { λ b. b.bytes.items };
+}
+
+impl TextBuffer {
+    /// Nothing is held.
+    pub fn new() -> TextBuffer
+        ensures { result ≡ [] }
+    {
+        TextBuffer {
+            bytes: ArrayVec::new(),
+        }
+    }
+
+    /// Hands what is held to the sink.
+    pub fn flush<K: Sink>(&mut self, sink: &mut K) -> Result<(), WriteFailed>
+        ensures put { Puts (K.taken sink.old) (K.taken sink.new) (K.faults sink.old) (K.faults sink.new) result self.old }
+        ensures empty { OnOk result (self.new ≡ []) }
+    {
+        put_whole(sink, self.bytes.as_slice())?;
+        self.bytes.clear();
+        Ok(())
+    }
+
+    fn push<K: Sink>(&mut self, sink: &mut K, byte: u8) -> Result<(), WriteFailed>
+        ensures { Gathers (K.taken sink.old) self.old (K.taken sink.new) self.new (K.faults sink.old) (K.faults sink.new) result (byte ∷ []) }
+    {
+        if self.bytes.is_full() {
+            self.flush(sink)?;
+        }
+        self.bytes.push(byte);
+        Ok(())
+    }
+
+    /// Adds text behind what is held, and hands over the buffer each time that it is full.
+    pub fn put<K: Sink>(&mut self, sink: &mut K, text: &[u8]) -> Result<(), WriteFailed>
+        ensures { Gathers (K.taken sink.old) self.old (K.taken sink.new) self.new (K.faults sink.old) (K.faults sink.new) result text.now }
+    {
+        for byte in text {
+            self.push(sink, *byte)?;
+        }
+        Ok(())
+    }
+}
