@@ -1,0 +1,18 @@
+-- The limits that a script keeps.
+use Rattle.std.specs.Prelude.{◌≡◌, ◌≤◌, ℕ, length}
+use Rattle.guest_script.specs.declared.script.Script.{Script}
+
+-- how many processors a script may have as the language stands
+abbrev pub most_vps : ℕ
+most_vps = 1
+
+pub record IsWithin (s : Script) : Type 0 where
+  pub vps_some : 1 ≤ s.limits.vps
+  pub vps_few : s.limits.vps ≤ most_vps
+  pub pages_some : 1 ≤ s.limits.pages
+  pub pages_few : s.limits.pages ≤ 256
+  pub budget_some : 1 ≤ s.limits.budget
+  pub budget_few : s.limits.budget ≤ 10000
+  pub started_some : 1 ≤ s.started
+  pub started_few : s.started ≤ s.limits.vps
+  pub programs : length s.programs ≡ s.limits.vps

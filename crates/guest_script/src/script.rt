@@ -1,0 +1,65 @@
+// What a script says, and why a line is refused.
+use vsm_base::{Items, Limits, Mask, Page, VpIndex};
+use vsm_core::Program;
+
+/// An entry of a schedule: a processor acts so many times.
+#[derive(Clone, Copy, Debug, PartialEq, Eq)]
+pub struct Turns {
+    pub vp: VpIndex,
+    /// Whether each time is one step rather than a whole attempt.
+    pub single: bool,
+    /// 1 to 100,000.
+    pub count: u32,
+}
+
+/// What a script says, each list in the order of its lines.
+#[derive(Debug, Drop)]
+pub struct Script {
+    pub limits: Limits,
+    /// How many processors run from the beginning: the first so many.
+    pub started: u8,
+    /// The pages whose mask is given; any other has all rights.
+    pub masks: Items<(Page, Mask)>,
+    /// The memory words whose value is given, by page and place in the page; any other is 0.
+    pub words: Items<(Page, u16, u64)>,
+    /// A program for each processor, empty where none is given.
+    pub programs: Items<Program>,
+    /// The entries of each schedule line.
+    pub schedule: Items<Items<Turns>>,
+}
+
+/// Why a line is refused.
+#[derive(Clone, Copy, Debug, PartialEq, Eq)]
+pub enum Why {
+    /// A byte is neither a space nor printable ASCII.
+    NotText,
+    /// The first word is none of the language, or there is none.
+    UnknownWord,
+    /// The line can't stand here.
+    OutOfOrder,
+    /// A word is missing.
+    MissingWord,
+    /// A word spells no number.
+    BadNumber,
+    /// A word names no register that may stand there.
+    BadName,
+    /// A word is no entry of a schedule.
+    BadEntry,
+    /// A number isn't in the range of its place.
+    OutOfRange,
+    /// A word too many.
+    ExtraWord,
+    /// This mask, word or program was given before.
+    Twice,
+    /// More than 4,096 operations in a program, or more than 100,000 turns in all.
+    TooMany,
+    /// The script ends without `end`.
+    Cut,
+}
+
+/// The first line that is refused, counted from 1, or 0 where it isn't told.
+#[derive(Clone, Copy, Debug, PartialEq, Eq)]
+pub struct Refusal {
+    pub line: u32,
+    pub why: Why,
+}

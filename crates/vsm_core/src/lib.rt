@@ -1,0 +1,20 @@
+//! The data of the model and its definitions, which every crate above cites.
+#![tactic(auto)]
+
+mod event;
+mod journal;
+mod laws;
+mod mark;
+mod note;
+mod operation;
+mod request;
+mod view;
+
+pub use event::{Event, PendingWord, Phase};
+pub use journal::Entry;
+pub use laws::{attempts_are_short, attempts_are_sound};
+pub use mark::{Denial, Ending, EomWord, Grant, GuestFault, Mark, Posted, What};
+pub use note::{MemNote, Note, RegNote};
+pub use operation::{Op, Operand, Program};
+pub use request::{PartCall, Reply, Request, Served};
+pub use view::{PartitionView, ProcessorView, Told, Turning, View};
