@@ -1,0 +1,75 @@
+-- What one access comes to as a whole attempt.
+use Rattle.std.proofs.Common.{◌≡◌, ◌<◌, ◌+◌, ◌*◌, ◌/◌, ◌%◌, ◌==◌, ℕ, Bool, true, false, nat_lt, Option, Some, List, [], ◌∷◌, refl, sym, ap, ◌∙◌, arith, slice_index, slice_get, length}
+use Rattle.std.proofs.lemmas.List.{length_push}
+use Rattle.std.proofs.lemmas.Bool.Decides.{nat_tests}
+use Rattle.vsm_base.specs.Masks.{allows}
+use Rattle.vsm_base.specs.declared.places.Access.{Access}
+use Rattle.vsm_base.specs.declared.places.Access.TheVariants.{Read, Write, Execute}
+use Rattle.vsm_base.specs.declared.places.Vtl.TheVariants.{Zero}
+use Rattle.vsm_core.specs.declared.mark.What.{What}
+use Rattle.vsm_core.specs.declared.mark.What.TheVariants.{Granted, Denied, Fault}
+use Rattle.vsm_core.specs.declared.mark.Posted.TheVariants.{Held}
+use Rattle.vsm_core.specs.Fills.{Fill, Cached, Filled, straight}
+use Rattle.vsm_core.specs.State.{State, gone_on}
+use Rattle.vsm_core.specs.Access.{page_of, index_of, fill_of, by_mask}
+use Rattle.vsm_core.specs.Attempt.{by_access, leaves}
+use Rattle.vsm_core.specs.Tree.{then_}
+use Rattle.vsm_core.specs.declared.operation.Op.{Op}
+use Rattle.vsm_core.specs.declared.operation.Program.{Program}
+use Rattle.vsm_core.specs.Processor.{Vp, Did, mark_of, marked, tree_of, settled_at, attempted}
+use Rattle.vsm_core.specs.Whole.{run_on, memory_place}
+use Rattle.cpu.specs.Stops.{Stops, goal_of, data_words, data_value, state_after, moved}
+
+-- a multiple of 8, and a page that is there
+is_aligned : (gva : ℕ) → gva % 8 ≡ 0 → (gva % 8 == 0) ≡ true
+is_aligned gva e = grind (arith, nat_tests)
+
+is_there : (page pages : ℕ) → page < pages → nat_lt page pages ≡ true
+is_there page pages l = grind (arith, nat_tests)
+
+-- the access goes as far as the data page's mask
+reaches : (masks words : List ℕ) (state : State) (granted : ℕ → State) (kind : Access) (gva value pages mask : ℕ) → gva % 8 ≡ 0 → gva / 4096 < pages → slice_index masks (gva / 4096) ≡ mask
+    → run_on masks 0 words (by_access state granted (goal_of gva kind value pages)) ≡ run_on masks 0 words (then_ (by_mask (goal_of gva kind value pages) (straight (gva / 4096)) 0 mask) (leaves state granted))
+reaches masks words state granted kind gva value pages mask a l m =
+    let goal = goal_of gva kind value pages in
+    let first : run_on masks 0 words (by_access state granted goal) ≡ run_on masks 0 words (then_ (by_mask goal (straight (gva / 4096)) 0 (slice_index masks (gva / 4096))) (leaves state granted)) = rw (is_aligned gva a, is_there (gva / 4096) pages l) refl in
+    first ∙ ap (λ x. run_on masks 0 words (then_ (by_mask goal (straight (gva / 4096)) 0 x) (leaves state granted))) m
+
+pub denied : (masks words : List ℕ) (state : State) (granted : ℕ → State) (kind : Access) (gva value pages mask : ℕ) → gva % 8 ≡ 0 → gva / 4096 < pages → slice_index masks (gva / 4096) ≡ mask → allows mask kind ≡ false
+    → Stops (run_on masks 0 words (by_access state granted (goal_of gva kind value pages))) (Denied (record { page = record { 0 = gva / 4096 }; mask = mask; generation = 0; access = kind; posted = Held })) state words
+denied masks words state granted kind gva value pages mask a l m d =
+    (Filled Zero (fill_of (goal_of gva kind value pages) (straight (gva / 4096)) 0 mask) ∷ [], reaches masks words state granted kind gva value pages mask a l m ∙ rw d refl)
+
+pub granted_so : (masks words : List ℕ) (state : State) (granted : ℕ → State) (kind : Access) (gva value pages mask : ℕ) → gva % 8 ≡ 0 → gva / 4096 < pages → slice_index masks (gva / 4096) ≡ mask → allows mask kind ≡ true
+    → Stops (run_on masks 0 words (by_access state granted (goal_of gva kind value pages))) (Granted (record { page = record { 0 = gva / 4096 }; mask = Some mask; generation = 0; value = data_value kind words (memory_place (gva / 4096) (gva / 8 % 512)) value; hit = false })) (granted (data_value kind words (memory_place (gva / 4096) (gva / 8 % 512)) value)) (data_words kind words (memory_place (gva / 4096) (gva / 8 % 512)) value)
+granted_so masks words state granted Read gva value pages mask a l m d =
+    (Filled Zero (fill_of (goal_of gva Read value pages) (straight (gva / 4096)) 0 mask) ∷ [], reaches masks words state granted Read gva value pages mask a l m ∙ rw d refl)
+granted_so masks words state granted Write gva value pages mask a l m d =
+    (Filled Zero (fill_of (goal_of gva Write value pages) (straight (gva / 4096)) 0 mask) ∷ [], reaches masks words state granted Write gva value pages mask a l m ∙ rw d refl)
+granted_so masks words state granted Execute gva value pages mask a l m d =
+    (Filled Zero (fill_of (goal_of gva Execute value pages) (straight (gva / 4096)) 0 mask) ∷ [], reaches masks words state granted Execute gva value pages mask a l m ∙ rw d refl)
+
+-- a store leaves the registers
+pub store_state : (what : What) (rip : ℕ) (registers : List ℕ) → let state : State = record { rip = rip; registers = registers } in
+    state_after what state (λ _. gone_on state) ≡ record { rip = moved what rip; registers = registers }
+store_state (Granted grant) rip registers = refl
+store_state _ rip registers = refl
+
+abbrev after_rip : ℕ → What → List ℕ → State
+after_rip rip what registers = record { rip = moved what rip; registers = registers }
+
+-- an attempt that has ended is the whole attempt, and its mark is left
+pub attempted_so : (u v new : Vp) (program : Program) (masks words now registers : List ℕ) (what : What) (op : Option Op) → u ≡ v → op ≡ slice_get program.zero u.state.rip
+    → Stops (run_on masks 0 words (tree_of u.limits.pages u.state op)) what (after_rip u.state.rip what registers) now
+    → ((does : List Cached) → new ≡ marked v (record { what = what; state = after_rip v.state.rip what registers; does = does }))
+    → record { vp = new; words = now } ≡ attempted program masks 0 v words
+unfolding attempted
+attempted_so u v new program masks words now registers what op e o h m =
+    let start : settled_at u (run_on masks 0 words (tree_of u.limits.pages u.state op)) ≡ record { vp = marked u (record { what = what; state = after_rip u.state.rip what registers; does = h.0 }); words = now } = ap (settled_at u) h.1 in
+    let same : record { vp = new; words = now } ≡ record { vp = marked u (record { what = what; state = after_rip u.state.rip what registers; does = h.0 }); words = now } = rw e (ap (λ (x : Vp). record { vp = x; words = now }) (m h.0)) in
+    same ∙ sym start ∙ ap (λ o. settled_at u (run_on masks 0 words (tree_of u.limits.pages u.state o))) o ∙ ap (λ x. settled_at x (run_on masks 0 words (tree_of x.limits.pages x.state (slice_get program.zero x.state.rip)))) e
+
+-- exactly one mark is left
+pub marks_more : (v new : Vp) (what : What) (registers : List ℕ) → ((does : List Cached) → new ≡ marked v (record { what = what; state = after_rip v.state.rip what registers; does = does })) → length new.marks ≡ length v.marks + 1
+marks_more v new what registers m =
+    ap (λ (x : Vp). length x.marks) (m []) ∙ length_push v.marks (mark_of v.state what)
