@@ -16,7 +16,7 @@ use Rattle.vsm_core.specs.Attempt.{by_access, leaves}
 use Rattle.vsm_core.specs.Tree.{then_}
 use Rattle.vsm_core.specs.declared.operation.Op.{Op}
 use Rattle.vsm_core.specs.declared.operation.Program.{Program}
-use Rattle.vsm_core.specs.Processor.{Vp, Did, mark_of, marked, tree_of, settled_at, attempted}
+use Rattle.vsm_core.specs.Processor.{Vp, Did, AddsMark, IsSameProcessor, mark_of, marked, tree_of, settled_at, attempted}
 use Rattle.vsm_core.specs.Whole.{run_on, memory_place}
 use Rattle.cpu.specs.Stops.{Stops, goal_of, data_words, data_value, state_after, moved}
 
@@ -70,6 +70,15 @@ attempted_so u v new program masks words now registers what op e o h m =
     same ∙ sym start ∙ ap (λ o. settled_at u (run_on masks 0 words (tree_of u.limits.pages u.state o))) o ∙ ap (λ x. settled_at x (run_on masks 0 words (tree_of x.limits.pages x.state (slice_get program.zero x.state.rip)))) e
 
 -- exactly one mark is left
-pub marks_more : (v new : Vp) (what : What) (registers : List ℕ) → ((does : List Cached) → new ≡ marked v (record { what = what; state = after_rip v.state.rip what registers; does = does })) → length new.marks ≡ length v.marks + 1
-marks_more v new what registers m =
-    ap (λ (x : Vp). length x.marks) (m []) ∙ length_push v.marks (mark_of v.state what)
+pub one_more : (v new : Vp) (what : What) (registers : List ℕ) → ((does : List Cached) → new ≡ marked v (record { what = what; state = after_rip v.state.rip what registers; does = does })) → AddsMark v new
+one_more v new what registers m = (mark_of v.state what, ap (λ (x : Vp). x.marks) (m []))
+
+-- and what it was made with stays
+pub stays : (v new : Vp) (what : What) (registers : List ℕ) → ((does : List Cached) → new ≡ marked v (record { what = what; state = after_rip v.state.rip what registers; does = does })) → IsSameProcessor v new
+stays v new what registers m = record {
+  number = ap (λ (x : Vp). x.number) (m []);
+  limits = ap (λ (x : Vp). x.limits) (m []);
+  zero_length = ap (λ (x : Vp). x.zero_length) (m []);
+  one_length = ap (λ (x : Vp). x.one_length) (m []);
+  started = ap (λ (x : Vp). x.started) (m []);
+}

@@ -1,7 +1,7 @@
 // A processor and its marks.
 ghost use Rattle.std.specs.Prelude.{◌≡◌, ◌+◌, ◌*◌, ◌<◌, ◌≤◌, ◌^◌, true, None, Some, IfOk, List, length, slice_get};
 ghost use Rattle.vsm_core.specs.Fills.{Cached};
-ghost use Rattle.vsm_core.specs.Processor.{opening, attempted, marked, ran_out, or_else, stopped_by};
+ghost use Rattle.vsm_core.specs.Processor.{opening, attempted, marked, ran_out, or_else, stopped_by, AddsMark, IsSameProcessor};
 ghost use Rattle.cpu.specs.Stops.{moved};
 
 use crate::access::{REGISTERS, perform};
@@ -121,6 +121,7 @@ impl Cpu {
         requires started { self.old.started ≡ true }
         requires going { self.old.ended ≡ None }
         ensures cpu { (does : List Cached) → self.new ≡ marked self.old (record { what = what; state = record { rip = moved what self.old.state.rip; registers = registers }; does = does }) }
+        ensures within { length self.new.marks ≤ self.old.limits.budget }
         ensures ending { result ≡ self.new.ended }
     {
         let mark = Mark {
@@ -157,7 +158,9 @@ impl Cpu {
         ensures cpu { self.new ≡ (attempted program.now masks.now 0 self.old words.old).vp }
         ensures words { words.new ≡ (attempted program.now masks.now 0 self.old words.old).words }
         ensures ending { result ≡ self.new.ended }
-        ensures one_mark { length self.new.marks ≡ length self.old.marks + 1 }
+        ensures one_mark { AddsMark self.old self.new }
+        ensures within { length self.new.marks ≤ self.old.limits.budget }
+        ensures same { IsSameProcessor self.old self.new }
     {
         let op = operation(program.zero.as_slice(), self.rip);
         let mut registers = self.registers;

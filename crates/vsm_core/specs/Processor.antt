@@ -1,5 +1,5 @@
 -- A processor: its registers, its marks and its ending.
-use Rattle.std.specs.Prelude.{ℕ, ◌+◌, Bool, if◌then◌else◌, nat_lt, List, [], ◌∷◌, ◌++◌, length, Option, Some, None, slice_get}
+use Rattle.std.specs.Prelude.{◌≡◌, ℕ, ◌+◌, Bool, if◌then◌else◌, nat_lt, List, [], ◌∷◌, ◌++◌, length, Option, Some, None, slice_get}
 use Rattle.vsm_base.specs.declared.places.Limits.{Limits}
 use Rattle.vsm_base.specs.declared.places.Vtl.TheVariants.{Zero}
 use Rattle.vsm_core.specs.declared.mark.What.{What}
@@ -98,3 +98,15 @@ settled_at v stop = record { vp = settled v stop.at; words = stop.words }
 unfoldable pub attempted : Program → List ℕ → ℕ → Vp → List ℕ → Did
 attempted program masks generation v words =
     settled_at v (run_on masks generation words (tree_of v.limits.pages v.state (slice_get program.zero v.state.rip)))
+
+-- exactly one mark was added
+abbrev pub AddsMark : Vp → Vp → Type 0
+AddsMark old new = (mark : Mark) × (new.marks ≡ old.marks ++ mark ∷ [])
+
+-- the same processor: what it was made with stays
+pub record IsSameProcessor (old new : Vp) : Type 0 where
+  pub number : new.number ≡ old.number
+  pub limits : new.limits ≡ old.limits
+  pub zero_length : new.zero_length ≡ old.zero_length
+  pub one_length : new.one_length ≡ old.one_length
+  pub started : new.started ≡ old.started

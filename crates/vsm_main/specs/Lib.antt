@@ -1,1 +1,4 @@
+pub mod Fits
+pub mod FlatRun
+pub mod Held
 pub mod Opening

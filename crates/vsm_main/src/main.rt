@@ -2,7 +2,9 @@
 #![tactic(auto)]
 
 mod report;
+mod walk;
 
 pub use report::{MarkLine, Report};
+pub use walk::trace;
 
 fn main() {}

@@ -1,0 +1,177 @@
+// The run of a script whose schedule has whole attempts alone.
+ghost use Rattle.std.specs.Prelude.{◌≡◌, ◌*◌, [], ◌∷◌, IfOk, length, slice_set, unwrap_or};
+ghost use Rattle.guest_script.specs.Within.{IsWithin};
+ghost use Rattle.vsm_main.specs.Opening.{opening_words, opening_masks};
+ghost use Rattle.vsm_main.specs.FlatRun.{opened, acted, after_turns, after_line, after_schedule, first_program, report_of, flat};
+ghost use Rattle.vsm_main.specs.Fits.{Fits};
+
+use crate::{MarkLine, Report};
+use cpu::Cpu;
+use guest_script::{Script, Turns};
+use std::alloc::Global;
+use std::marker::Model;
+use vsm_base::{Items, Mask, Memory, Reserved, VpIndex};
+use vsm_core::{Ending, Program};
+
+/// A run under way.
+#[derive(Drop)]
+struct Walk {
+    masks: Vec<Mask>,
+    words: Vec<u64>,
+    cpu: Cpu,
+    lines: Reserved<MarkLine>,
+}
+
+impl Model for Walk {
+    ghost use Rattle.vsm_main.specs.FlatRun.{World};
+    ghost use Rattle.vsm_main.specs.Held.{view_of, IsReady};
+
+    ghost Value = { World };
+
+    ghost view = { view_of };
+
+    ghost invariant = { IsReady };
+}
+
+fn set_at<T: Copy>(items: &mut Vec<T>, place: usize, item: T)
+    ensures { items.new.items ≡ slice_set items.old.items place item }
+{
+    if place < items.len() {
+        items[place] = item;
+    }
+}
+
+/// The memory words with which a run begins.
+#[tactic(auto, unfolding(crate::specs::Opening::opening_words))]
+fn opening_words(alloc: Global, script: &Script) -> Result<Vec<u64>, Memory>
+    ensures words { IfOk result (λ words. words.items ≡ opening_words script.now) }
+    ensures all { IfOk result (λ words. length words.items ≡ 512 * script.now.limits.pages) }
+{
+    let mut words = vec![in alloc; 0u64; 512 * script.limits.pages as usize]?;
+    for (page, index, value) in script.words.as_slice() {
+        set_at(&mut words, 512 * page.0 as usize + *index as usize, *value);
+    }
+    Ok(words)
+}
+
+/// The masks with which a run begins.
+#[tactic(auto, unfolding(crate::specs::Opening::opening_masks))]
+fn opening_masks(alloc: Global, script: &Script) -> Result<Vec<Mask>, Memory>
+    ensures masks { IfOk result (λ masks. masks.items ≡ opening_masks script.now) }
+    ensures all { IfOk result (λ masks. length masks.items ≡ script.now.limits.pages) }
+{
+    let mut masks = vec![in alloc; Mask::all(); script.limits.pages as usize]?;
+    for (page, mask) in script.masks.as_slice() {
+        set_at(&mut masks, page.0 as usize, *mask);
+    }
+    Ok(masks)
+}
+
+impl Walk {
+    /// A run before its first turn. All its memory is taken here.
+    #[tactic(auto, unfolding(crate::specs::FlatRun::opened))]
+    fn open(alloc: Global, script: &Script, program: &Program) -> Result<Walk, Memory>
+        requires within { IsWithin script.now }
+        requires program { first_program script.now ≡ program.now }
+        ensures opened { IfOk result (λ w. w ≡ opened script.now) }
+        ensures fits { IfOk result (λ w. Fits program.now w.vp) }
+    {
+        let masks = opening_masks(alloc, script)?;
+        let words = opening_words(alloc, script)?;
+        let lines = Reserved::new(alloc, script.limits.budget as usize)?;
+        let cpu = Cpu::new(
+            alloc,
+            VpIndex(0),
+            &script.limits,
+            script.started > 0,
+            program,
+        )?;
+        Ok(Walk {
+            masks,
+            words,
+            cpu,
+            lines,
+        })
+    }
+
+    /// The processor makes a whole attempt, if it hasn't ended.
+    #[tactic(auto, unfolding(crate::specs::FlatRun::acted))]
+    fn act(&mut self, program: &Program)
+        requires { Fits program.now self.old.vp }
+        ensures acts { self.new ≡ acted program.now self.old }
+        ensures fits { Fits program.now self.new.vp }
+    {
+        if self.cpu.ended().is_some() {
+            return;
+        }
+        let before = self.cpu.marks().len();
+        let _ = self.cpu.attempt(&self.masks, &mut self.words, program);
+        let mark = self.cpu.marks()[before];
+        self.lines.push(MarkLine {
+            vp: VpIndex(0),
+            mark,
+        });
+    }
+
+    fn turns(&mut self, program: &Program, count: u32)
+        requires { Fits program.now self.old.vp }
+        ensures acts { self.new ≡ after_turns program.now count self.old }
+        ensures fits { Fits program.now self.new.vp }
+    {
+        for _turn in 0..count {
+            self.act(program);
+        }
+    }
+
+    #[tactic(auto, unfolding(crate::specs::FlatRun::after_line))]
+    fn line(&mut self, program: &Program, entries: &[Turns])
+        requires { Fits program.now self.old.vp }
+        ensures acts { self.new ≡ after_line program.now self.old entries.now }
+        ensures fits { Fits program.now self.new.vp }
+    {
+        for turns in entries {
+            self.turns(program, turns.count);
+        }
+    }
+
+    #[tactic(auto, unfolding(crate::specs::FlatRun::after_schedule))]
+    fn schedule(&mut self, program: &Program, lines: &[Items<Turns>])
+        requires { Fits program.now self.old.vp }
+        ensures acts { self.new ≡ after_schedule program.now self.old lines.now }
+    {
+        for entries in lines {
+            self.line(program, entries.as_slice());
+        }
+    }
+
+    fn into_report(self, ends: Items<Ending>) -> Report
+        requires { ends ≡ unwrap_or self.vp.ended Ending.Cut ∷ [] }
+        ensures { result ≡ report_of self }
+    {
+        let Walk {
+            masks: _,
+            words,
+            cpu: _,
+            lines,
+        } = self;
+        Report {
+            lines: lines.into_items(),
+            ends,
+            words: Items::from_vec(words),
+        }
+    }
+}
+
+/// The report of a script's run. All memory is taken before the first turn; the only error is want of it.
+#[tactic(auto, unfolding(crate::specs::FlatRun::flat))]
+pub fn trace(alloc: Global, script: &Script) -> Result<Report, Memory>
+    requires { IsWithin script.now }
+    ensures { IfOk result (λ report. report ≡ flat script.now) }
+{
+    let program = &script.programs.as_slice()[0];
+    let mut ends = Vec::with_capacity(alloc, 1)?;
+    let mut walk = Walk::open(alloc, script, program)?;
+    walk.schedule(program, script.schedule.as_slice());
+    let _ = ends.push(walk.cpu.ended().unwrap_or(Ending::Cut));
+    Ok(walk.into_report(Items::from_vec(ends)))
+}
