@@ -6,3 +6,4 @@ pub mod Sound
 pub mod State
 pub mod Tree
 pub mod Whole
+pub mod Words

@@ -1,9 +1,12 @@
 // Laws of the definitions. Each function's contract is the law; it computes nothing.
-ghost use Rattle.std.specs.Prelude.{ℕ, List, ◌≡◌};
+ghost use Rattle.std.specs.Prelude.{ℕ, List, ◌≡◌, ◌<◌};
 ghost use Rattle.vsm_core.specs.Tree.{Within};
 ghost use Rattle.vsm_core.specs.State.{State};
 ghost use Rattle.vsm_core.specs.Attempt.{attempt};
 ghost use Rattle.vsm_core.specs.Sound.{Sound, IsOver, phase_of};
+ghost use Rattle.vsm_base.specs.declared.places.Limits.{Limits};
+ghost use Rattle.vsm_core.specs.Whole.{run_on};
+ghost use Rattle.vsm_core.specs.Words.{Holds, SameStop, steps_on};
 ghost use Rattle.vsm_core.specs.declared.event.Event.{Event};
 ghost use Rattle.vsm_core.specs.declared.event.Phase.TheVariants.{Idle};
 ghost use Rattle.vsm_core.specs.declared.operation.Op.{Op};
@@ -17,4 +20,11 @@ pub fn attempts_are_sound()
 /// An attempt has at most thirteen steps, whatever the words answer.
 pub fn attempts_are_short()
     ensures { (pages : ℕ) (state : State) (op : Op) → Within 13 (attempt pages state op) }
+{}
+
+/// An attempt whose steps are made one by one on all the shared words comes to what it comes to at once over the
+/// masks, the generation and the memory that these words hold.
+pub fn attempts_are_whole()
+    ensures { (limits : Limits) (p : ℕ) (state : State) (op : Op) (words masks : List ℕ) (generation : ℕ) (memory : List ℕ) → p < limits.vps → Holds limits words masks generation memory
+        → SameStop limits masks generation (steps_on limits p words (attempt limits.pages state op)) (run_on masks generation memory (attempt limits.pages state op)) }
 {}

@@ -12,7 +12,7 @@ mod view;
 
 pub use event::{Event, PendingWord, Phase};
 pub use journal::Entry;
-pub use laws::{attempts_are_short, attempts_are_sound};
+pub use laws::{attempts_are_short, attempts_are_sound, attempts_are_whole};
 pub use mark::{Denial, Ending, EomWord, Grant, GuestFault, Mark, Posted, What};
 pub use note::{MemNote, Note, RegNote};
 pub use operation::{Op, Operand, Program};

@@ -1,12 +1,12 @@
 -- Turns one by one.
 use Rattle.std.proofs.Common.{◌≡◌, ℕ, ◌+◌, refl, ap, add-one}
-use Rattle.vsm_core.specs.declared.operation.Program.{Program}
-use Rattle.vsm_main.specs.FlatRun.{World, acted, after_turns}
+use Rattle.vsm_main.specs.Schedule.{after_turns}
 
-pub after_turns-add-one : (program : Program) (k : ℕ) (w : World) → after_turns program (k + 1) w ≡ after_turns program k (acted program w)
-unfolding after_turns
-after_turns-add-one program k w = ap (λ j. after_turns program j w) (add-one k)
+module _ {W : Type 0} (act : W → W) where
+  pub after_turns-add-one : (k : ℕ) (w : W) → after_turns act (k + 1) w ≡ after_turns act k (act w)
+  unfolding after_turns
+  after_turns-add-one k w = ap (λ j. after_turns act j w) (add-one k)
 
-pub after_turns-zero : (program : Program) (w : World) → after_turns program 0 w ≡ w
-unfolding after_turns
-after_turns-zero program w = refl
+  pub after_turns-zero : (w : W) → after_turns act 0 w ≡ w
+  unfolding after_turns
+  after_turns-zero w = refl

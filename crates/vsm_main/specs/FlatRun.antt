@@ -1,13 +1,13 @@
 -- The run of a script whose schedule has whole attempts alone, for the one processor that scripts have so far.
-use Rattle.std.specs.Prelude.{ℕ, zero, suc, ◌+◌, List, [], ◌∷◌, ◌++◌, length, drop, map, fold, if◌then◌else◌, nat_lt, is_some, unwrap_or, slice_index_or}
+use Rattle.std.specs.Prelude.{ℕ, List, [], ◌∷◌, ◌++◌, length, drop, map, if◌then◌else◌, nat_lt, is_some, unwrap_or, slice_index_or}
 use Rattle.vsm_core.specs.declared.mark.Mark.{Mark}
 use Rattle.vsm_core.specs.declared.mark.Ending.TheVariants as endings
 use Rattle.vsm_core.specs.declared.operation.Program.{Program}
 use Rattle.vsm_core.specs.Processor.{Vp, Did, opening, attempted}
 use Rattle.guest_script.specs.declared.script.Script.{Script}
-use Rattle.guest_script.specs.declared.script.Turns.{Turns}
 use Rattle.vsm_main.specs.declared.report.MarkLine.{MarkLine}
 use Rattle.vsm_main.specs.declared.report.Report.{Report}
+use Rattle.vsm_main.specs.Schedule.{after_schedule}
 use Rattle.vsm_main.specs.Opening.{opening_masks, opening_words}
 
 -- the masks, the memory words, the processor and the lines so far
@@ -47,25 +47,10 @@ with_attempt w did = record { masks = w.masks; words = did.words; vp = did.vp; l
 unfoldable pub acted : Program → World → World
 acted program w = if is_some w.vp.ended then w else with_attempt w (attempted program w.masks 0 w.vp w.words)
 
--- it acts so many times
-unfoldable pub after_turns : Program → ℕ → World → World
-after_turns program zero w = w
-after_turns program (suc count) w = after_turns program count (acted program w)
-
-abbrev pub after_entry : Program → World → Turns → World
-after_entry program w turns = after_turns program turns.count w
-
--- the entries of a schedule line, and the lines of a schedule
-unfoldable pub after_line : Program → World → List Turns → World
-after_line program w entries = fold (after_entry program) w entries
-
-unfoldable pub after_schedule : Program → World → List (List Turns) → World
-after_schedule program w lines = fold (after_line program) w lines
-
 -- a processor that has not ended as its schedule ends is cut
 abbrev pub report_of : World → Report
 report_of w = record { lines = w.lines; ends = unwrap_or w.vp.ended endings.Cut ∷ []; words = w.words }
 
 -- the report of a script's run
 unfoldable pub flat : Script → Report
-flat s = report_of (after_schedule (first_program s) (opened s) s.schedule)
+flat s = report_of (after_schedule (acted (first_program s)) (opened s) s.schedule)

@@ -2,3 +2,5 @@ pub mod Fits
 pub mod FlatRun
 pub mod Held
 pub mod Opening
+pub mod Schedule
+pub mod Trace

@@ -2,7 +2,9 @@
 ghost use Rattle.std.specs.Prelude.{◌≡◌, ◌*◌, [], ◌∷◌, IfOk, length, slice_set, unwrap_or};
 ghost use Rattle.guest_script.specs.Within.{IsWithin};
 ghost use Rattle.vsm_main.specs.Opening.{opening_words, opening_masks};
-ghost use Rattle.vsm_main.specs.FlatRun.{opened, acted, after_turns, after_line, after_schedule, first_program, report_of, flat};
+ghost use Rattle.vsm_main.specs.FlatRun.{opened, acted, first_program, report_of, flat};
+ghost use Rattle.vsm_main.specs.Trace.{traced};
+ghost use Rattle.vsm_main.specs.Schedule.{after_turns, after_line, after_schedule};
 ghost use Rattle.vsm_main.specs.Fits.{Fits};
 
 use crate::{MarkLine, Report};
@@ -115,7 +117,7 @@ impl Walk {
 
     fn turns(&mut self, program: &Program, count: u32)
         requires { Fits program.now self.old.vp }
-        ensures acts { self.new ≡ after_turns program.now count self.old }
+        ensures acts { self.new ≡ after_turns (acted program.now) count self.old }
         ensures fits { Fits program.now self.new.vp }
     {
         for _turn in 0..count {
@@ -123,10 +125,10 @@ impl Walk {
         }
     }
 
-    #[tactic(auto, unfolding(crate::specs::FlatRun::after_line))]
+    #[tactic(auto, unfolding(crate::specs::Schedule::after_line))]
     fn line(&mut self, program: &Program, entries: &[Turns])
         requires { Fits program.now self.old.vp }
-        ensures acts { self.new ≡ after_line program.now self.old entries.now }
+        ensures acts { self.new ≡ after_line (acted program.now) self.old entries.now }
         ensures fits { Fits program.now self.new.vp }
     {
         for turns in entries {
@@ -134,10 +136,10 @@ impl Walk {
         }
     }
 
-    #[tactic(auto, unfolding(crate::specs::FlatRun::after_schedule))]
+    #[tactic(auto, unfolding(crate::specs::Schedule::after_schedule))]
     fn schedule(&mut self, program: &Program, lines: &[Items<Turns>])
         requires { Fits program.now self.old.vp }
-        ensures acts { self.new ≡ after_schedule program.now self.old lines.now }
+        ensures acts { self.new ≡ after_schedule (acted program.now) self.old lines.now }
     {
         for entries in lines {
             self.line(program, entries.as_slice());
@@ -162,9 +164,8 @@ impl Walk {
     }
 }
 
-/// The report of a script's run. All memory is taken before the first turn; the only error is want of it.
 #[tactic(auto, unfolding(crate::specs::FlatRun::flat))]
-pub fn trace(alloc: Global, script: &Script) -> Result<Report, Memory>
+fn walked(alloc: Global, script: &Script) -> Result<Report, Memory>
     requires { IsWithin script.now }
     ensures { IfOk result (λ report. report ≡ flat script.now) }
 {
@@ -174,4 +175,15 @@ pub fn trace(alloc: Global, script: &Script) -> Result<Report, Memory>
     walk.schedule(program, script.schedule.as_slice());
     let _ = ends.push(walk.cpu.ended().unwrap_or(Ending::Cut));
     Ok(walk.into_report(Items::from_vec(ends)))
+}
+
+/// The report of a script's run, which is the same whether each attempt is made at once or step by step on the
+/// shared words. All memory is taken before the first turn; the only error is want of it.
+pub fn trace(alloc: Global, script: &Script) -> Result<Report, Memory>
+    requires { IsWithin script.now }
+    ensures at_once { IfOk result (λ report. report ≡ flat script.now) }
+    ensures by_steps { IfOk result (λ report. report ≡ traced script.now) }
+{
+    let report = walked(alloc, script)?;
+    Ok(report)
 }
