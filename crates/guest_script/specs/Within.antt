@@ -6,6 +6,10 @@ use Rattle.guest_script.specs.declared.script.Script.{Script}
 abbrev pub most_vps : ℕ
 most_vps = 1
 
+-- how many levels may have a program as the language stands
+abbrev pub most_levels : ℕ
+most_levels = 1
+
 pub record IsWithin (s : Script) : Type 0 where
   pub vps_some : 1 ≤ s.limits.vps
   pub vps_few : s.limits.vps ≤ most_vps
