@@ -1,7 +1,9 @@
 // Reading a whole script.
-ghost use Rattle.std.specs.Prelude.{IfOk};
+ghost use Rattle.std.specs.Prelude.{◌≡◌, IfOk};
 ghost use Rattle.guest_script.specs.Within.{IsWithin};
+ghost use Rattle.guest_script.specs.Grammar.{is_done};
 ghost use Rattle.guest_script.specs.Read.{IsReadAs};
+ghost use Rattle.guest_script.specs.declared.reader.ReadError.TheVariants.{Memory};
 
 use crate::keyword::Stage;
 use crate::reading::{LineError, Reading};
@@ -20,9 +22,18 @@ pub enum ReadError {
 }
 
 impl From<AllocError> for ReadError {
+    ghost from_gives = { λ _ e. e ≡ Memory };
+
     fn from(_: AllocError) -> Self {
         ReadError::Memory
     }
+}
+
+// Whether the line `end` was read.
+fn is_done(stage: Stage) -> bool
+    ensures { result ≡ is_done stage }
+{
+    matches!(stage, Stage::Done)
 }
 
 // The refusal that tells neither line nor cause.
@@ -53,7 +64,7 @@ pub fn read(alloc: Global, bytes: &[u8]) -> Result<Script, ReadError>
         }
         rest = others;
     }
-    if !matches!(reading.stage, Stage::Done) {
+    if !is_done(reading.stage) {
         return Err(UNTOLD);
     }
     Ok(reading.into_script())

@@ -2,5 +2,5 @@ use Rattle.std.proofs.Common.{◌≡◌}
 use Rattle.guest_script.specs.Programs.{nothings}
 use Rattle.guest_script.proofs.programs.Programs.empty.Given as goal
 
-abbrev pub invariant-loop-_ : goal.invariant-loop-_
-invariant-loop-_ l = l.items.items ≡ nothings l._
+abbrev pub invariant-loop : goal.invariant-loop
+invariant-loop l = l.items.items ≡ nothings l.counter
