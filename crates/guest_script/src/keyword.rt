@@ -91,7 +91,10 @@ pub fn stands(keyword: Keyword, stage: Stage) -> bool
         Keyword::Program => matches!(stage, Stage::Memory | Stage::Program(_, _)),
         Keyword::Load | Keyword::Store => matches!(stage, Stage::Program(_, _)),
         Keyword::Schedule | Keyword::End => {
-            matches!(stage, Stage::Memory | Stage::Program(_, _) | Stage::Schedule)
+            matches!(
+                stage,
+                Stage::Memory | Stage::Program(_, _) | Stage::Schedule
+            )
         }
     }
 }

@@ -14,3 +14,6 @@ mod words;
 
 pub use reader::{ReadError, read};
 pub use script::{Refusal, Script, Turns, Why};
+
+#[cfg(test)]
+mod tests;

@@ -20,6 +20,7 @@ use vsm_core::{Op, Operand};
 
 // How many processors and levels a script may have.
 const MOST_VPS: u128 = 1;
+
 const MOST_LEVELS: u128 = 1;
 
 #[derive(Clone, Copy, Debug, PartialEq, Eq)]
@@ -270,10 +271,7 @@ impl Reading {
         let (address, rest) = number(rest, 0, 1 << 64)?;
         let (value, rest) = number(rest, 0, 1 << 64)?;
         no_more(rest)?;
-        self.add(Op::Store(
-            Gva(address as u64),
-            Operand::Number(value as u64),
-        ))
+        self.add(Op::Store(Gva(address as u64), Operand::Number(value as u64)))
     }
 
     #[tactic(auto, unfolding(crate::specs::Line::schedule_line))]
