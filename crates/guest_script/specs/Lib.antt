@@ -1,1 +1,11 @@
+pub mod Fields
+pub mod Grammar
+pub mod Line
+pub mod Lines
+pub mod Numbers
+pub mod Programs
+pub mod Read
+pub mod Schedules
+pub mod Sound
 pub mod Within
+pub mod Words

@@ -1,10 +1,15 @@
 -- The limits that a script keeps.
 use Rattle.std.specs.Prelude.{◌≡◌, ◌≤◌, ℕ, length}
+use Rattle.guest_script.specs.Schedules.{all_turns}
 use Rattle.guest_script.specs.declared.script.Script.{Script}
 
 -- how many processors a script may have as the language stands
 abbrev pub most_vps : ℕ
 most_vps = 1
+
+-- how many levels may have a program as the language stands
+abbrev pub most_levels : ℕ
+most_levels = 1
 
 pub record IsWithin (s : Script) : Type 0 where
   pub vps_some : 1 ≤ s.limits.vps
@@ -16,3 +21,4 @@ pub record IsWithin (s : Script) : Type 0 where
   pub started_some : 1 ≤ s.started
   pub started_few : s.started ≤ s.limits.vps
   pub programs : length s.programs ≡ s.limits.vps
+  pub turns_few : all_turns s.schedule ≤ 100000

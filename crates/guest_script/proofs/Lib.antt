@@ -1,0 +1,4 @@
+pub mod Ends
+pub mod Entries
+pub mod Numerals
+pub mod Splits

@@ -1,0 +1,92 @@
+-- What the words of a line say, one after another, or why the line is refused.
+use Rattle.std.specs.Prelude.{ℕ, ◌+◌, List, [], ◌∷◌, take, drop, Bool, true, false, ◌&&◌, if◌then◌else◌, ◌==◌, nat_lt, nat_le, Option, Some, None, Result, Ok, Err, position, ◌≡◌}
+use Rattle.vsm_base.specs.Masks.{is_mask}
+use Rattle.vsm_base.specs.Names.{named_by}
+use Rattle.vsm_base.specs.declared.name.Name.{Name}
+use Rattle.vsm_base.specs.declared.name.Name.TheVariants as names
+use Rattle.guest_script.specs.Numbers.{number_of, numeral}
+use Rattle.guest_script.specs.declared.script.Turns.{Turns}
+use Rattle.guest_script.specs.declared.script.Why.{Why}
+use Rattle.guest_script.specs.declared.script.Why.TheVariants.{MissingWord, BadNumber, BadName, BadEntry, OutOfRange, ExtraWord}
+
+infixl 10 ◌>>=◌
+-- one step after another, as long as none is refused
+abbrev pub ◌>>=◌ : {A B E : Type 0} → Result A E → (A → Result B E) → Result B E
+(Ok x) >>= f = f x
+(Err e) >>= f = Err e
+
+-- what the code answers is what is said here, seen by view
+abbrev pub Gives : {X Y : Type 0} → (X → Y) → Result X Why → Result Y Why → Type 0
+Gives view (Ok x) said = said ≡ Ok (view x)
+Gives view (Err why) said = said ≡ Err why
+
+abbrev pub Words : Type 0
+Words = List (List ℕ)
+
+abbrev in_range : ℕ → ℕ → Option ℕ → Words → Result (ℕ × Words) Why
+in_range low high None words = Err BadNumber
+in_range low high (Some n) words = if nat_le low n && nat_lt n high then Ok (n, words) else Err OutOfRange
+
+-- a number from low on and below high, and the words after it
+unfoldable pub number : ℕ → ℕ → Words → Result (ℕ × Words) Why
+number low high [] = Err MissingWord
+number low high (word ∷ words) = in_range low high (number_of word) words
+
+-- the mask of these bits
+abbrev pub valid_mask : ℕ → Result ℕ Why
+valid_mask bits = if is_mask bits then Ok bits else Err OutOfRange
+
+-- a general register, or Rsp
+abbrev pub is_general : Name → Bool
+is_general names.Rax = true
+is_general names.Rcx = true
+is_general names.Rdx = true
+is_general names.Rbx = true
+is_general names.Rsp = true
+is_general names.Rbp = true
+is_general names.Rsi = true
+is_general names.Rdi = true
+is_general names.R8 = true
+is_general names.R9 = true
+is_general names.R10 = true
+is_general names.R11 = true
+is_general names.R12 = true
+is_general names.R13 = true
+is_general names.R14 = true
+is_general names.R15 = true
+is_general _ = false
+
+abbrev named : Option Name → Words → Result (Name × Words) Why
+named None words = Err BadName
+named (Some name) words = if is_general name then Ok (name, words) else Err BadName
+
+-- the name of a general register or Rsp, and the words after it
+unfoldable pub register : Words → Result (Name × Words) Why
+register [] = Err MissingWord
+register (word ∷ words) = named (named_by word) words
+
+-- no word is left
+unfoldable pub no_more : Words → Result (Unit {0}) Why
+no_more [] = Ok tt
+no_more (word ∷ words) = Err ExtraWord
+
+abbrev counted : ℕ → Option ℕ → Option ℕ → Result Turns Why
+counted vps None count = Err BadEntry
+counted vps (Some vp) None = Err BadEntry
+counted vps (Some vp) (Some count) = if nat_lt vp vps && nat_le 1 count && nat_le count 100000 then Ok (record { vp = record { 0 = vp }; single = false; count = count }) else Err OutOfRange
+
+abbrev starred : ℕ → Option ℕ → List ℕ → Result Turns Why
+starred vps None word = counted vps (numeral 10 39 word) (Some 1)
+starred vps (Some at) word = counted vps (numeral 10 39 (take at word)) (numeral 10 39 (drop (at + 1) word))
+
+-- P, or P*C, of so many processors
+unfoldable pub entry : ℕ → List ℕ → Result Turns Why
+entry vps word = starred vps (position (λ b. b == 42) word) word
+
+-- all the words as entries
+unfoldable pub entries : ℕ → Words → Result (List Turns) Why
+entries vps [] = Ok []
+entries vps (word ∷ words) = do
+  first ← entry vps word
+  others ← entries vps words
+  Ok (first ∷ others)

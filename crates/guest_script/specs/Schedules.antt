@@ -1,0 +1,11 @@
+-- The turns of a schedule.
+use Rattle.std.specs.Prelude.{ℕ, List, sum_by}
+use Rattle.guest_script.specs.declared.script.Turns.{Turns}
+
+-- the turns of all the entries of a line
+abbrev pub turns_of : List Turns → ℕ
+turns_of turns = sum_by (λ t. t.count) turns
+
+-- the turns of all lines
+abbrev pub all_turns : List (List Turns) → ℕ
+all_turns schedule = sum_by turns_of schedule

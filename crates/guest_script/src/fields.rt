@@ -1,0 +1,114 @@
+// The fields of a line.
+ghost use Rattle.std.specs.Prelude.{◌≡◌, ◌<◌, ◌≤◌, IfOk, position, ◌==◌};
+ghost use Rattle.guest_script.specs.Lines.{words_of};
+ghost use Rattle.guest_script.specs.Fields.{Gives, number, is_general, register, no_more, entry};
+
+use crate::numbers::{number_of, numeral};
+use crate::words::next_word;
+use crate::{Turns, Why};
+use vsm_base::{Name, VpIndex};
+
+/// A number from `low` on and below `high`, and what follows it.
+#[tactic(auto, unfolding(crate::specs::Fields::number))]
+pub fn number(line: &[u8], low: u128, high: u128) -> Result<(u128, &[u8]), Why>
+    ensures said { Gives (λ x. (x.0, words_of x.1.now)) result (number low high (words_of line.now)) }
+    ensures in_range { IfOk result (λ x. (low ≤ x.0) × (x.0 < high)) }
+{
+    let Some((word, rest)) = next_word(line) else {
+        return Err(Why::MissingWord);
+    };
+    let Some(n) = number_of(word) else {
+        return Err(Why::BadNumber);
+    };
+    if low <= n && n < high {
+        Ok((n, rest))
+    } else {
+        Err(Why::OutOfRange)
+    }
+}
+
+// Whether it is a general register or Rsp.
+fn is_general(name: Name) -> bool
+    ensures { result ≡ is_general name }
+{
+    match name {
+        Name::Rax
+        | Name::Rcx
+        | Name::Rdx
+        | Name::Rbx
+        | Name::Rsp
+        | Name::Rbp
+        | Name::Rsi
+        | Name::Rdi
+        | Name::R8
+        | Name::R9
+        | Name::R10
+        | Name::R11
+        | Name::R12
+        | Name::R13
+        | Name::R14
+        | Name::R15 => true,
+        _ => false,
+    }
+}
+
+/// The name of a general register or Rsp, and what follows it.
+#[tactic(auto, unfolding(crate::specs::Fields::register))]
+pub fn register(line: &[u8]) -> Result<(Name, &[u8]), Why>
+    ensures { Gives (λ x. (x.0, words_of x.1.now)) result (register (words_of line.now)) }
+{
+    let Some((word, rest)) = next_word(line) else {
+        return Err(Why::MissingWord);
+    };
+    let Some(name) = Name::spelled(word) else {
+        return Err(Why::BadName);
+    };
+    if is_general(name) {
+        Ok((name, rest))
+    } else {
+        Err(Why::BadName)
+    }
+}
+
+/// That no word follows.
+#[tactic(auto, unfolding(crate::specs::Fields::no_more))]
+pub fn no_more(line: &[u8]) -> Result<(), Why>
+    ensures { Gives (λ x. x) result (no_more (words_of line.now)) }
+{
+    match next_word(line) {
+        None => Ok(()),
+        Some(_) => Err(Why::ExtraWord),
+    }
+}
+
+fn star(word: &[u8]) -> Option<usize>
+    ensures { result ≡ position (λ b. b == 42) word.now }
+{
+    word.iter().position(|b| *b == b'*')
+}
+
+/// An entry of a schedule of so many processors.
+#[tactic(auto, unfolding(crate::specs::Fields::entry))]
+pub fn entry(vps: u8, word: &[u8]) -> Result<Turns, Why>
+    ensures { Gives (λ x. x) result (entry vps word.now) }
+{
+    let (vp, count) = match star(word) {
+        None => (numeral(word, 10, 39), Some(1)),
+        Some(at) => (
+            numeral(&word[..at], 10, 39),
+            numeral(&word[at + 1..], 10, 39),
+        ),
+    };
+    let (Some(vp), Some(count)) = (vp, count) else {
+        return Err(Why::BadEntry);
+    };
+    if vp < u128::from(vps) && 1 <= count && count <= 100_000 {
+        Ok(Turns {
+            vp: VpIndex(vp as u8),
+            single: false,
+            count: count as u32,
+        })
+    } else {
+        Err(Why::OutOfRange)
+    }
+}

@@ -1,0 +1,153 @@
+// What the reader takes and what it refuses.
+use super::*;
+use std::alloc::{AllocError, Global};
+use std::test::Fail;
+use vsm_base::{Gva, Limits, Mask, Name, Page, VpIndex};
+use vsm_core::{Op, Operand};
+
+// The lines before the pages' masks.
+const HEAD: &[u8] = b"vsm 1\nvps 1\npages 2\nbudget 10\nstarted 1\n";
+
+fn with_head(alloc: Global, body: &[u8]) -> Result<Vec<u8>, AllocError> {
+    let mut text = Vec::new(alloc);
+    text.extend_from_slice(HEAD)?;
+    text.extend_from_slice(body)?;
+    Ok(text)
+}
+
+fn with_stores(alloc: Global, count: u32) -> Result<Vec<u8>, AllocError> {
+    let mut text = with_head(alloc, b"program 0 0\n")?;
+    for _ in 0..count {
+        text.extend_from_slice(b"store 0 1\n")?;
+    }
+    text.extend_from_slice(b"end\n")?;
+    Ok(text)
+}
+
+fn is_refused(alloc: Global, bytes: &[u8]) -> bool {
+    matches!(read(alloc, bytes), Err(ReadError::Refused(_)))
+}
+
+#[test]
+fn a_script_is_read_into_its_fields(rt: HostRuntime) -> Result<(), Fail> {
+    let body: &[u8] =
+        b"mask 1 0x0d\nword  0 3 0x2A \nword 1 3 18446744073709551615\nprogram 0 0\nload Rsp 0x18\nstore 0x20 7\nschedule 0 0*5\nschedule 0*0002\nend\n";
+    let text = with_head(rt.alloc(), body)?;
+    let script = read(rt.alloc(), &text)?;
+    let limits = Limits {
+        vps: 1,
+        pages: 2,
+        budget: 10,
+    };
+    assert_eq!(rt; script.limits, limits);
+    assert_eq!(rt; script.started, 1);
+    assert_eq!(rt; script.masks.len(), 1);
+    assert_eq!(rt; Some(script.masks.as_slice()[0].1), Mask::of(13));
+    assert_eq!(rt;
+        script.words.as_slice(),
+        [(Page(0), 3, 42), (Page(1), 3, u64::MAX)].as_slice()
+    );
+    assert_eq!(rt; script.programs.len(), 1);
+    let program = &script.programs.as_slice()[0];
+    let ops = [
+        Op::Load(Name::Rsp, Gva(24)),
+        Op::Store(Gva(32), Operand::Number(7)),
+    ];
+    assert_eq!(rt; program.zero.as_slice(), ops.as_slice());
+    assert_eq!(rt; program.one.len(), 0);
+    assert_eq!(rt; script.schedule.len(), 2);
+    let turns = [1, 5].map(|count| Turns {
+        vp: VpIndex(0),
+        single: false,
+        count,
+    });
+    assert_eq!(rt; script.schedule.as_slice()[0].as_slice(), turns.as_slice());
+    Ok(())
+}
+
+#[test]
+fn a_script_is_refused_before_its_memory(rt: HostRuntime) -> Result<(), Fail> {
+    let scripts: [&[u8]; 14] = [
+        b"",
+        b"\n",
+        b"vsm 1",
+        b"vsm 2\n",
+        b"vsm\n",
+        b"vsm 1 1\n",
+        b"vsm 1\tvps 1\n",
+        b"vps 1\n",
+        b"vsm one\n",
+        b"vsm 1\nvps 0\n",
+        b"vsm 1\nvps 2\n",
+        b"vsm 1\nvps 1\npages 257\n",
+        b"vsm 1\nvps 1\npages 1\nbudget 10001\n",
+        b"vsm 1\nvps 1\npages 1\nbudget 1\nstarted 2\n",
+    ];
+    for bytes in scripts {
+        assert!(rt; is_refused(rt.alloc(), bytes));
+    }
+    Ok(())
+}
+
+#[test]
+fn a_body_is_refused_for_each_cause(rt: HostRuntime) -> Result<(), Fail> {
+    let bodies: [&[u8]; 30] = [
+        b"",
+        b"print\nend\n",
+        b"mask 0 1\n\nend\n",
+        b"started 1\nend\n",
+        b"load Rax 0\nend\n",
+        b"schedule 0\nmask 0 1\nend\n",
+        b"end\nend\n",
+        b"end\nprint\n",
+        b"mask 0\nend\n",
+        b"schedule\nend\n",
+        b"mask 0 0x\nend\n",
+        b"mask 0 -1\nend\n",
+        b"word 0 0 340282366920938463463374607431768211456\nend\n",
+        b"program 0 0\nstore 0 Rax\nend\n",
+        b"program 0 0\nload Rip 0\nend\n",
+        b"program 0 0\nload rax 0\nend\n",
+        b"schedule 0x0\nend\n",
+        b"schedule 0*\nend\n",
+        b"schedule 0*1*1\nend\n",
+        b"schedule 1\nend\n",
+        b"schedule 0*0\nend\n",
+        b"mask 2 1\nend\n",
+        b"mask 0 2\nend\n",
+        b"mask 0 16\nend\n",
+        b"word 0 512 1\nend\n",
+        b"word 0 0 18446744073709551616\nend\n",
+        b"end 1\n",
+        b"mask 0 1\nmask 0 3\nend\n",
+        b"word 0 9 1\nword 1 9 1\nword 0 9 2\nend\n",
+        b"program 0 0\nprogram 0 0\nend\n",
+    ];
+    for body in bodies {
+        let text = with_head(rt.alloc(), body)?;
+        assert!(rt; is_refused(rt.alloc(), &text));
+    }
+    Ok(())
+}
+
+#[test]
+fn turns_and_pages_may_reach_their_limits(rt: HostRuntime) -> Result<(), Fail> {
+    let full: &[u8] =
+        b"vsm 1\nvps 1\npages 256\nbudget 10000\nstarted 1\nmask 255 15\nword 255 511 0\nschedule 0*99999\nschedule 0\nend";
+    let script = read(rt.alloc(), full)?;
+    assert_eq!(rt; script.limits.pages, 256);
+    let whole = with_head(rt.alloc(), b"schedule 0*100000\nend\n")?;
+    assert!(rt; read(rt.alloc(), &whole).is_ok());
+    let over = with_head(rt.alloc(), b"schedule 0*99999\nschedule 0 0\nend\n")?;
+    assert!(rt; is_refused(rt.alloc(), &over));
+    Ok(())
+}
+
+#[test]
+fn a_program_may_reach_its_limit(rt: HostRuntime) -> Result<(), Fail> {
+    let script = read(rt.alloc(), &with_stores(rt.alloc(), 4096)?)?;
+    let program = script.programs.as_slice().first();
+    assert_eq!(rt; program.map(|p| p.zero.len()), Some(4096));
+    assert!(rt; is_refused(rt.alloc(), &with_stores(rt.alloc(), 4097)?));
+    Ok(())
+}
