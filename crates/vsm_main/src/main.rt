@@ -1,8 +1,12 @@
 //! The program: a script in, a report out.
 #![tactic(auto)]
 
+mod digits;
+mod pieces;
 mod report;
+mod writer;
 
+pub use pieces::{Piece, put_pieces};
 pub use report::{MarkLine, Report};
 
 fn main() {}
