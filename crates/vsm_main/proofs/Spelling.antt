@@ -15,6 +15,13 @@ pub flat_map_step : {X : Type 0} (f : X → List ℕ) (xs : List X) (i : ℕ) (d
 flat_map_step f xs i d l =
     flat_map_more f [] (take i xs) (get_or xs i d) ∙ ap (flat_map f) (sym (take_more xs i d l))
 
+-- the same of an element that is read at a place
+pub flat_map_cut_at : {X : Type 0} (f : X → List ℕ) (xs : List X) (i : ℕ) (x : X) → x ≡ get_or xs i x → i < length xs → (flat_map f (take i xs) ++ f x) ++ flat_map f (drop (i + 1) xs) ≡ flat_map f xs
+flat_map_cut_at f xs i x e l = ap (λ y. (flat_map f (take i xs) ++ f y) ++ flat_map f (drop (i + 1) xs)) e ∙ flat_map_cut f xs i x l
+
+pub flat_map_step_at : {X : Type 0} (f : X → List ℕ) (xs : List X) (i : ℕ) (x : X) → x ≡ get_or xs i x → i < length xs → flat_map f (take i xs) ++ f x ≡ flat_map f (take (i + 1) xs)
+flat_map_step_at f xs i x e l = ap (λ y. flat_map f (take i xs) ++ f y) e ∙ flat_map_step f xs i x l
+
 -- the same of the places of a list
 pub flat_map_range_cut : (f : ℕ → List ℕ) (n i : ℕ) → i < n → (flat_map f (take i (range_with_len 0 n)) ++ f i) ++ flat_map f (drop (i + 1) (range_with_len 0 n)) ≡ flat_map f (range_with_len 0 n)
 flat_map_range_cut f n i l =

@@ -1,6 +1,6 @@
 -- The text of a report.
 use Rattle.std.specs.Prelude.{◌≡◌, ℕ, ◌+◌, ◌*◌, ◌/◌, ◌%◌, ◌<◌, List, [], ◌∷◌, ◌++◌, length, Option, Some, None, if◌then◌else◌, ◌==◌, codes, slice_get, slice_index}
-use Rattle.std.specs.List.{flat_map, range_with_len}
+use Rattle.std.specs.List.{concat, flat_map, range_with_len}
 use Rattle.std.specs.Fmt.{decimal}
 use Rattle.vsm_base.specs.Levels.{level_number}
 use Rattle.vsm_base.specs.declared.places.Vtl.{Vtl}
@@ -88,7 +88,8 @@ operation_at s l = operation_in (slice_get s.programs l.vp.0) l.mark
 
 -- the processor, the level, Rip and the operation of a mark
 unfoldable pub place_text : MarkLine → Op → List ℕ
-place_text l op = decimal l.vp.0 ++ codes "." ++ decimal (level_number l.mark.level) ++ codes " " ++ decimal l.mark.rip ++ codes " " ++ op_word op
+place_text l op =
+    concat (decimal l.vp.0 ∷ codes "." ∷ decimal (level_number l.mark.level) ∷ codes " " ∷ decimal l.mark.rip ∷ codes " " ∷ op_word op ∷ [])
 
 -- what an attempt came to, up to the end of its line; nothing yet for what no operation of a script comes to
 abbrev pub what_text : What → List ℕ
@@ -107,22 +108,27 @@ marked_text l (Some op) = place_text l op ++ what_text l.mark.what
 abbrev pub mark_text : Script → MarkLine → List ℕ
 mark_text s l = marked_text l (operation_at s l)
 
-abbrev pub end_text : ℕ → Ending → List ℕ
-end_text vp endings.Done = line (codes "end " ∷ decimal vp ∷ codes " done" ∷ [])
-end_text vp endings.Budget = line (codes "end " ∷ decimal vp ∷ codes " budget" ∷ [])
-end_text vp endings.Spun = line (codes "end " ∷ decimal vp ∷ codes " spun" ∷ [])
-end_text vp endings.Held = line (codes "end " ∷ decimal vp ∷ codes " held" ∷ [])
-end_text vp (endings.Fault kind) = line (codes "end " ∷ decimal vp ∷ codes " fault " ∷ fault_word kind ∷ [])
-end_text vp endings.Unstarted = line (codes "end " ∷ decimal vp ∷ codes " unstarted" ∷ [])
-end_text vp endings.Cut = line (codes "end " ∷ decimal vp ∷ codes " cut" ∷ [])
+-- the processor that ended
+unfoldable pub ended_text : ℕ → List ℕ
+ended_text vp = concat (codes "end " ∷ decimal vp ∷ codes " " ∷ [])
 
-abbrev pub ended_text : ℕ → Option Ending → List ℕ
-ended_text vp None = []
-ended_text vp (Some ending) = end_text vp ending
+-- how a processor ended
+abbrev pub ending_text : Ending → List ℕ
+ending_text endings.Done = line (codes "done" ∷ [])
+ending_text endings.Budget = line (codes "budget" ∷ [])
+ending_text endings.Spun = line (codes "spun" ∷ [])
+ending_text endings.Held = line (codes "held" ∷ [])
+ending_text (endings.Fault kind) = line (codes "fault " ∷ fault_word kind ∷ [])
+ending_text endings.Unstarted = line (codes "unstarted" ∷ [])
+ending_text endings.Cut = line (codes "cut" ∷ [])
+
+abbrev pub end_text : ℕ → Option Ending → List ℕ
+end_text vp None = []
+end_text vp (Some ending) = ended_text vp ++ ending_text ending
 
 -- the line of a processor's ending
 abbrev pub end_text_at : List Ending → ℕ → List ℕ
-end_text_at ends vp = ended_text vp (slice_get ends vp)
+end_text_at ends vp = end_text vp (slice_get ends vp)
 
 -- the line of a memory word that differs from its opening value
 abbrev pub changed_text : ℕ → ℕ → ℕ → List ℕ

@@ -2,6 +2,7 @@
 #![tactic(auto)]
 
 mod digits;
+mod opening;
 mod pieces;
 mod report;
 mod writer;

@@ -1,12 +1,13 @@
 // The text of a report into a sink.
-ghost use Rattle.std.specs.Prelude.{◌≡◌, ◌<◌, length};
+ghost use Rattle.std.specs.Prelude.{◌≡◌, length, slice_get};
 ghost use Rattle.std.specs.List.{flat_map, range_with_len};
 ghost use Rattle.vsm_base.specs.Levels.{level_number};
 ghost use Rattle.vsm_base.specs.Whole.{Gathers, Puts};
 ghost use Rattle.vsm_main.specs.Opening.{opening_words};
 ghost use Rattle.vsm_main.specs.Pieces.{spelled};
-ghost use Rattle.vsm_main.specs.Text.{op_word, access_word, posted_word, fault_word, mask_word, operation_at, place_text, what_text, mark_text, end_text_at, end_text, changed_text, word_text, head_text, marks_text, ends_text, words_text, close_text, text};
+ghost use Rattle.vsm_main.specs.Text.{op_word, access_word, posted_word, fault_word, mask_word, operation_at, place_text, what_text, mark_text, end_text_at, ended_text, ending_text, changed_text, word_text, head_text, marks_text, ends_text, words_text, close_text, text};
 
+use crate::opening::go_on_to;
 use crate::pieces::{Piece, put_pieces};
 use crate::report::{MarkLine, Report};
 use guest_script::Script;
@@ -181,10 +182,159 @@ fn put_mark<K: Sink>(sink: &mut K, buffer: &mut TextBuffer, script: &Script, lin
     put_what(sink, buffer, &line.mark.what)
 }
 
-fn put_end<K: Sink>(sink: &mut K, buffer: &mut TextBuffer, vp: u64, ending: Ending) -> Result<(), WriteFailed>
-    ensures { Gathers (K.taken sink.old) buffer.old (K.taken sink.new) buffer.new (K.faults sink.old) (K.faults sink.new) result (end_text vp ending) }
+fn put_marks<K: Sink>(sink: &mut K, buffer: &mut TextBuffer, script: &Script, lines: &[MarkLine]) -> Result<(), WriteFailed>
+    ensures { Gathers (K.taken sink.old) buffer.old (K.taken sink.new) buffer.new (K.faults sink.old) (K.faults sink.new) result (flat_map (mark_text script.now) lines.now) }
 {
-    let front = [Piece::Text(b"end "), Piece::Decimal(vp)];
-    put_pieces(sink, buffer, &front)?;
+    for line in lines {
+        put_mark(sink, buffer, script, line)?;
+    }
     Ok(())
+}
+
+#[tactic(auto, unfolding(crate::specs::Text::ended_text))]
+fn put_ended<K: Sink>(sink: &mut K, buffer: &mut TextBuffer, vp: usize) -> Result<(), WriteFailed>
+    ensures { Gathers (K.taken sink.old) buffer.old (K.taken sink.new) buffer.new (K.faults sink.old) (K.faults sink.new) result (ended_text vp) }
+{
+    put_pieces(
+        sink,
+        buffer,
+        &[
+            Piece::Text(b"end "),
+            Piece::Decimal(vp as u64),
+            Piece::Text(b" "),
+        ],
+    )
+}
+
+fn put_ending<K: Sink>(sink: &mut K, buffer: &mut TextBuffer, ending: Ending) -> Result<(), WriteFailed>
+    ensures { Gathers (K.taken sink.old) buffer.old (K.taken sink.new) buffer.new (K.faults sink.old) (K.faults sink.new) result (ending_text ending) }
+{
+    match ending {
+        Ending::Done => buffer.put(sink, b"done\n"),
+        Ending::Budget => buffer.put(sink, b"budget\n"),
+        Ending::Spun => buffer.put(sink, b"spun\n"),
+        Ending::Held => buffer.put(sink, b"held\n"),
+        Ending::Fault(kind) => put_pieces(
+            sink,
+            buffer,
+            &[
+                Piece::Text(b"fault "),
+                Piece::Text(fault_word(kind)),
+                Piece::Text(b"\n"),
+            ],
+        ),
+        Ending::Unstarted => buffer.put(sink, b"unstarted\n"),
+        Ending::Cut => buffer.put(sink, b"cut\n"),
+    }
+}
+
+fn ending_at(ends: &[Ending], vp: usize) -> Option<Ending>
+    ensures { result ≡ slice_get ends.now vp }
+{
+    ends.get(vp).copied()
+}
+
+fn put_end<K: Sink>(sink: &mut K, buffer: &mut TextBuffer, ends: &[Ending], vp: usize) -> Result<(), WriteFailed>
+    ensures { Gathers (K.taken sink.old) buffer.old (K.taken sink.new) buffer.new (K.faults sink.old) (K.faults sink.new) result (end_text_at ends.now vp) }
+{
+    let Some(ending) = ending_at(ends, vp) else {
+        return Ok(());
+    };
+    put_ended(sink, buffer, vp)?;
+    put_ending(sink, buffer, ending)
+}
+
+fn put_ends<K: Sink>(sink: &mut K, buffer: &mut TextBuffer, ends: &[Ending]) -> Result<(), WriteFailed>
+    ensures { Gathers (K.taken sink.old) buffer.old (K.taken sink.new) buffer.new (K.faults sink.old) (K.faults sink.new) result (flat_map (end_text_at ends.now) (range_with_len 0 (length ends.now))) }
+{
+    for vp in 0..ends.len() {
+        put_end(sink, buffer, ends, vp)?;
+    }
+    Ok(())
+}
+
+fn put_word<K: Sink>(sink: &mut K, buffer: &mut TextBuffer, at: usize, opening: u64, value: u64) -> Result<(), WriteFailed>
+    ensures { Gathers (K.taken sink.old) buffer.old (K.taken sink.new) buffer.new (K.faults sink.old) (K.faults sink.new) result (changed_text at opening value) }
+{
+    if opening == value {
+        return Ok(());
+    }
+    put_pieces(
+        sink,
+        buffer,
+        &[
+            Piece::Text(b"word "),
+            Piece::Decimal((at / 512) as u64),
+            Piece::Text(b":"),
+            Piece::Decimal((at % 512) as u64),
+            Piece::Text(b" 0x"),
+            Piece::Hex(value),
+            Piece::Text(b"\n"),
+        ],
+    )
+}
+
+fn put_words<K: Sink>(sink: &mut K, buffer: &mut TextBuffer, script: &Script, words: &[u64]) -> Result<(), WriteFailed>
+    ensures { Gathers (K.taken sink.old) buffer.old (K.taken sink.new) buffer.new (K.faults sink.old) (K.faults sink.new) result (flat_map (word_text (opening_words script.now) words.now) (range_with_len 0 (length words.now))) }
+{
+    let mut opening = [0u64; 512];
+    for at in 0..words.len() {
+        go_on_to(script, at, &mut opening);
+        put_word(sink, buffer, at, opening[at % 512], words[at])?;
+    }
+    Ok(())
+}
+
+#[tactic(auto, unfolding(crate::specs::Text::head_text))]
+fn put_head<K: Sink>(sink: &mut K, buffer: &mut TextBuffer) -> Result<(), WriteFailed>
+    ensures { Gathers (K.taken sink.old) buffer.old (K.taken sink.new) buffer.new (K.faults sink.old) (K.faults sink.new) result head_text }
+{
+    buffer.put(sink, b"vsm-report 1 trace\n")
+}
+
+#[tactic(auto, unfolding(crate::specs::Text::marks_text))]
+fn put_all_marks<K: Sink>(sink: &mut K, buffer: &mut TextBuffer, script: &Script, report: &Report) -> Result<(), WriteFailed>
+    ensures { Gathers (K.taken sink.old) buffer.old (K.taken sink.new) buffer.new (K.faults sink.old) (K.faults sink.new) result (marks_text script.now report.now) }
+{
+    put_marks(sink, buffer, script, report.lines.as_slice())
+}
+
+#[tactic(auto, unfolding(crate::specs::Text::ends_text))]
+fn put_all_ends<K: Sink>(sink: &mut K, buffer: &mut TextBuffer, report: &Report) -> Result<(), WriteFailed>
+    ensures { Gathers (K.taken sink.old) buffer.old (K.taken sink.new) buffer.new (K.faults sink.old) (K.faults sink.new) result (ends_text report.now) }
+{
+    put_ends(sink, buffer, report.ends.as_slice())
+}
+
+#[tactic(auto, unfolding(crate::specs::Text::words_text))]
+fn put_all_words<K: Sink>(sink: &mut K, buffer: &mut TextBuffer, script: &Script, report: &Report) -> Result<(), WriteFailed>
+    ensures { Gathers (K.taken sink.old) buffer.old (K.taken sink.new) buffer.new (K.faults sink.old) (K.faults sink.new) result (words_text script.now report.now) }
+{
+    put_words(sink, buffer, script, report.words.as_slice())
+}
+
+#[tactic(auto, unfolding(crate::specs::Text::close_text))]
+fn put_close<K: Sink>(sink: &mut K, buffer: &mut TextBuffer) -> Result<(), WriteFailed>
+    ensures { Gathers (K.taken sink.old) buffer.old (K.taken sink.new) buffer.new (K.faults sink.old) (K.faults sink.new) result close_text }
+{
+    buffer.put(sink, b"close\n")
+}
+
+fn put_report<K: Sink>(sink: &mut K, buffer: &mut TextBuffer, report: &Report, script: &Script) -> Result<(), WriteFailed>
+    ensures { Gathers (K.taken sink.old) buffer.old (K.taken sink.new) buffer.new (K.faults sink.old) (K.faults sink.new) result (text script.now report.now) }
+{
+    put_head(sink, buffer)?;
+    put_all_marks(sink, buffer, script, report)?;
+    put_all_ends(sink, buffer, report)?;
+    put_all_words(sink, buffer, script, report)?;
+    put_close(sink, buffer)
+}
+
+/// Writes the text of the report of the script's run, and nothing else. It takes no memory.
+pub fn write<K: Sink>(report: &Report, script: &Script, sink: &mut K) -> Result<(), WriteFailed>
+    ensures { Puts (K.taken sink.old) (K.taken sink.new) (K.faults sink.old) (K.faults sink.new) result (text script.now report.now) }
+{
+    let mut buffer = TextBuffer::new();
+    put_report(sink, &mut buffer, report, script)?;
+    buffer.flush(sink)
 }
