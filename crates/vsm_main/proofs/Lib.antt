@@ -1,2 +1,5 @@
+pub mod DigitSteps
+pub mod PageWords
+pub mod Spelling
 pub mod Stepping
 pub mod Turning

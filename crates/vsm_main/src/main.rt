@@ -1,10 +1,36 @@
 //! The program: a script in, a report out.
 #![tactic(auto)]
 
+mod digits;
+mod opening;
+mod pieces;
 mod report;
+mod serve;
 mod walk;
+mod writer;
 
+pub use pieces::{Piece, put_pieces};
 pub use report::{MarkLine, Report};
+pub use serve::{Status, serve_plain, vsm};
+use std::process::ExitCode;
+use std::{env, io};
+use vsm_base::{StdSink, StdSource};
 pub use walk::trace;
+pub use writer::write;
 
-fn main() {}
+fn main(rt: HostRuntime) -> io::Result<ExitCode> {
+    let mut words = Vec::new(rt.alloc());
+    for word in env::args(&rt)?.skip(1) {
+        words.push(word)?;
+    }
+    let mut source = StdSource::new(rt.stdin());
+    let mut sink = StdSink::new(rt.stdout());
+    let status = vsm(
+        &rt,
+        rt.alloc(),
+        words.as_slice(),
+        &mut source,
+        &mut sink,
+    );
+    Ok(ExitCode::from(status as u8))
+}

@@ -1,0 +1,6 @@
+use Rattle.std.proofs.lemmas.Result.{err_from_is_err_and}
+use Rattle.vsm_base.proofs.Gathering.{gathers_put}
+use Rattle.vsm_main.proofs.writer.write.Goals as goal
+
+pub returns : goal.returns
+returns g c = gathers_put (rw c.new-buffer.ensures at c.in_ok-put_report.ensures) c.flush.ensures.put
