@@ -25,12 +25,6 @@ fn main(rt: HostRuntime) -> io::Result<ExitCode> {
     }
     let mut source = StdSource::new(rt.stdin());
     let mut sink = StdSink::new(rt.stdout());
-    let status = vsm(
-        &rt,
-        rt.alloc(),
-        words.as_slice(),
-        &mut source,
-        &mut sink,
-    );
+    let status = vsm(&rt, rt.alloc(), words.as_slice(), &mut source, &mut sink);
     Ok(ExitCode::from(status as u8))
 }
