@@ -1,5 +1,6 @@
 pub mod Fields
 pub mod Grammar
+pub mod Keywords
 pub mod Line
 pub mod Lines
 pub mod Numbers

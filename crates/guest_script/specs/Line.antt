@@ -1,13 +1,13 @@
 -- What a line does to what has been read so far, or why it is refused.
-use Rattle.std.specs.Prelude.{ℕ, ◌+◌, ◌^◌, List, [], ◌∷◌, ◌++◌, length, Bool, true, false, ◌&&◌, if◌then◌else◌, ◌==◌, nat_lt, nat_le, codes, Option, Some, None, Result, Ok, Err, ◌≡◌}
+use Rattle.std.specs.Prelude.{ℕ, ◌+◌, ◌^◌, List, [], ◌∷◌, ◌++◌, length, Bool, ◌&&◌, if◌then◌else◌, ◌==◌, nat_lt, nat_le, Option, Some, None, Result, Ok, Err, ◌≡◌}
 use Rattle.std.specs.List.{list_any, list_all}
-use Rattle.std.specs.Str.{bytes_eq}
 use Rattle.vsm_base.specs.declared.places.Page.{Page}
 use Rattle.vsm_core.specs.declared.operation.Op.{Op}
 use Rattle.vsm_core.specs.declared.operation.Op.TheVariants as ops
 use Rattle.vsm_core.specs.declared.operation.Operand.TheVariants.{Number}
 use Rattle.guest_script.specs.Lines.{words_of}
 use Rattle.guest_script.specs.Fields.{Words, ◌>>=◌, number, valid_mask, register, no_more, entries}
+use Rattle.guest_script.specs.Keywords.{keyword_of, stands}
 use Rattle.guest_script.specs.Programs.{nothings, operations, program_at, added}
 use Rattle.guest_script.specs.Schedules.{turns_of, all_turns}
 use Rattle.guest_script.specs.Within.{most_vps, most_levels}
@@ -38,32 +38,6 @@ Collects (Err errors.Memory) said = Unit {0}
 -- a byte of text
 abbrev pub is_text : ℕ → Bool
 is_text b = nat_le 32 b && nat_le b 126
-
--- the first word of a line of each kind
-abbrev pub keyword_of : List ℕ → Option Keyword
-keyword_of word =
-    if bytes_eq word (codes "vsm") then Some words.Vsm else (if bytes_eq word (codes "vps") then Some words.Vps else (if bytes_eq word (codes "pages") then Some words.Pages else (if bytes_eq word (codes "budget") then Some words.Budget else (if bytes_eq word (codes "started") then Some words.Started else (if bytes_eq word (codes "mask") then Some words.Mask else (if bytes_eq word (codes "word") then Some words.Word else (if bytes_eq word (codes "program") then Some words.Program else (if bytes_eq word (codes "load") then Some words.Load else (if bytes_eq word (codes "store") then Some words.Store else (if bytes_eq word (codes "schedule") then Some words.Schedule else (if bytes_eq word (codes "end") then Some words.End else None)))))))))))
-
--- whether a line of this kind can stand at this stage
-abbrev pub stands : Keyword → Stage → Bool
-stands words.Vsm stages.Vsm = true
-stands words.Vps stages.Vps = true
-stands words.Pages stages.Pages = true
-stands words.Budget stages.Budget = true
-stands words.Started stages.Started = true
-stands words.Mask stages.Memory = true
-stands words.Word stages.Memory = true
-stands words.Program stages.Memory = true
-stands words.Program (stages.Program vp level) = true
-stands words.Load (stages.Program vp level) = true
-stands words.Store (stages.Program vp level) = true
-stands words.Schedule stages.Memory = true
-stands words.Schedule (stages.Program vp level) = true
-stands words.Schedule stages.Schedule = true
-stands words.End stages.Memory = true
-stands words.End (stages.Program vp level) = true
-stands words.End stages.Schedule = true
-stands _ _ = false
 
 -- vsm 1
 unfoldable pub vsm_line : Reading → Words → Result Reading Why

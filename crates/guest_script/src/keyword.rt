@@ -1,6 +1,6 @@
 // The kinds of lines, and where each can stand.
-ghost use Rattle.std.specs.Prelude.{◌≡◌};
-ghost use Rattle.guest_script.specs.Line.{keyword_of, stands};
+ghost use Rattle.std.specs.Prelude.{◌≡◌, find};
+ghost use Rattle.guest_script.specs.Keywords.{spelling, is_spelled, keyword_of, stands};
 
 /// The first word of a line.
 #[derive(Clone, Copy, Debug, PartialEq, Eq)]
@@ -34,47 +34,60 @@ pub enum Stage {
     Done,
 }
 
+const ALL: [Keyword; 12] = [
+    Keyword::Vsm,
+    Keyword::Vps,
+    Keyword::Pages,
+    Keyword::Budget,
+    Keyword::Started,
+    Keyword::Mask,
+    Keyword::Word,
+    Keyword::Program,
+    Keyword::Load,
+    Keyword::Store,
+    Keyword::Schedule,
+    Keyword::End,
+];
+
+impl Keyword {
+    /// How it is spelled.
+    fn text(self) -> &'static [u8]
+        ensures { result.now ≡ spelling self }
+    {
+        match self {
+            Keyword::Vsm => b"vsm",
+            Keyword::Vps => b"vps",
+            Keyword::Pages => b"pages",
+            Keyword::Budget => b"budget",
+            Keyword::Started => b"started",
+            Keyword::Mask => b"mask",
+            Keyword::Word => b"word",
+            Keyword::Program => b"program",
+            Keyword::Load => b"load",
+            Keyword::Store => b"store",
+            Keyword::Schedule => b"schedule",
+            Keyword::End => b"end",
+        }
+    }
+}
+
+fn with_spelling(all: &[Keyword], word: &[u8]) -> Option<Keyword>
+    ensures { result ≡ find (is_spelled word.now) all.now }
+{
+    for keyword in all {
+        if keyword.text() == word {
+            return Some(*keyword);
+        }
+    }
+    None
+}
+
 /// The kind of line that a first word begins.
+#[tactic(auto, unfolding(crate::specs::Keywords::all_keywords, crate::specs::Keywords::keyword_of))]
 pub fn keyword_of(word: &[u8]) -> Option<Keyword>
     ensures { result ≡ keyword_of word.now }
 {
-    if word == b"vsm".as_slice() {
-        return Some(Keyword::Vsm);
-    }
-    if word == b"vps".as_slice() {
-        return Some(Keyword::Vps);
-    }
-    if word == b"pages".as_slice() {
-        return Some(Keyword::Pages);
-    }
-    if word == b"budget".as_slice() {
-        return Some(Keyword::Budget);
-    }
-    if word == b"started".as_slice() {
-        return Some(Keyword::Started);
-    }
-    if word == b"mask".as_slice() {
-        return Some(Keyword::Mask);
-    }
-    if word == b"word".as_slice() {
-        return Some(Keyword::Word);
-    }
-    if word == b"program".as_slice() {
-        return Some(Keyword::Program);
-    }
-    if word == b"load".as_slice() {
-        return Some(Keyword::Load);
-    }
-    if word == b"store".as_slice() {
-        return Some(Keyword::Store);
-    }
-    if word == b"schedule".as_slice() {
-        return Some(Keyword::Schedule);
-    }
-    if word == b"end".as_slice() {
-        return Some(Keyword::End);
-    }
-    None
+    with_spelling(&ALL, word)
 }
 
 /// Whether a line of this kind can stand at this stage.
