@@ -7,7 +7,10 @@ mod pieces;
 mod report;
 mod writer;
 
-pub use pieces::{Piece, put_pieces};
 pub use report::{MarkLine, Report};
+pub use writer::write;
+
+#[cfg(test)]
+mod writer_tests;
 
 fn main() {}

@@ -37,7 +37,11 @@ fn put<K: Sink>(sink: &mut K, buffer: &mut TextBuffer, piece: &Piece<'_>) -> Res
 }
 
 /// Writes the pieces one after another.
-pub fn put_pieces<K: Sink>(sink: &mut K, buffer: &mut TextBuffer, pieces: &[Piece<'_>]) -> Result<(), WriteFailed>
+pub fn put_pieces<K: Sink>(
+    sink: &mut K,
+    buffer: &mut TextBuffer,
+    pieces: &[Piece<'_>],
+) -> Result<(), WriteFailed>
     ensures { Gathers (K.taken sink.old) buffer.old (K.taken sink.new) buffer.new (K.faults sink.old) (K.faults sink.new) result (flat_map spelled pieces.now) }
 {
     for piece in pieces {

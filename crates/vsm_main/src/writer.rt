@@ -102,7 +102,12 @@ fn operation_at(script: &Script, line: &MarkLine) -> Option<Op>
 }
 
 #[tactic(auto, unfolding(crate::specs::Text::place_text))]
-fn put_place<K: Sink>(sink: &mut K, buffer: &mut TextBuffer, line: &MarkLine, op: &Op) -> Result<(), WriteFailed>
+fn put_place<K: Sink>(
+    sink: &mut K,
+    buffer: &mut TextBuffer,
+    line: &MarkLine,
+    op: &Op,
+) -> Result<(), WriteFailed>
     ensures { Gathers (K.taken sink.old) buffer.old (K.taken sink.new) buffer.new (K.faults sink.old) (K.faults sink.new) result (place_text line.now op.now) }
 {
     let level = level_number(line.mark.level);
@@ -172,7 +177,12 @@ fn put_what<K: Sink>(sink: &mut K, buffer: &mut TextBuffer, what: &What) -> Resu
     }
 }
 
-fn put_mark<K: Sink>(sink: &mut K, buffer: &mut TextBuffer, script: &Script, line: &MarkLine) -> Result<(), WriteFailed>
+fn put_mark<K: Sink>(
+    sink: &mut K,
+    buffer: &mut TextBuffer,
+    script: &Script,
+    line: &MarkLine,
+) -> Result<(), WriteFailed>
     ensures { Gathers (K.taken sink.old) buffer.old (K.taken sink.new) buffer.new (K.faults sink.old) (K.faults sink.new) result (mark_text script.now line.now) }
 {
     let Some(op) = operation_at(script, line) else {
@@ -182,7 +192,12 @@ fn put_mark<K: Sink>(sink: &mut K, buffer: &mut TextBuffer, script: &Script, lin
     put_what(sink, buffer, &line.mark.what)
 }
 
-fn put_marks<K: Sink>(sink: &mut K, buffer: &mut TextBuffer, script: &Script, lines: &[MarkLine]) -> Result<(), WriteFailed>
+fn put_marks<K: Sink>(
+    sink: &mut K,
+    buffer: &mut TextBuffer,
+    script: &Script,
+    lines: &[MarkLine],
+) -> Result<(), WriteFailed>
     ensures { Gathers (K.taken sink.old) buffer.old (K.taken sink.new) buffer.new (K.faults sink.old) (K.faults sink.new) result (flat_map (mark_text script.now) lines.now) }
 {
     for line in lines {
@@ -206,7 +221,11 @@ fn put_ended<K: Sink>(sink: &mut K, buffer: &mut TextBuffer, vp: usize) -> Resul
     )
 }
 
-fn put_ending<K: Sink>(sink: &mut K, buffer: &mut TextBuffer, ending: Ending) -> Result<(), WriteFailed>
+fn put_ending<K: Sink>(
+    sink: &mut K,
+    buffer: &mut TextBuffer,
+    ending: Ending,
+) -> Result<(), WriteFailed>
     ensures { Gathers (K.taken sink.old) buffer.old (K.taken sink.new) buffer.new (K.faults sink.old) (K.faults sink.new) result (ending_text ending) }
 {
     match ending {
@@ -234,7 +253,12 @@ fn ending_at(ends: &[Ending], vp: usize) -> Option<Ending>
     ends.get(vp).copied()
 }
 
-fn put_end<K: Sink>(sink: &mut K, buffer: &mut TextBuffer, ends: &[Ending], vp: usize) -> Result<(), WriteFailed>
+fn put_end<K: Sink>(
+    sink: &mut K,
+    buffer: &mut TextBuffer,
+    ends: &[Ending],
+    vp: usize,
+) -> Result<(), WriteFailed>
     ensures { Gathers (K.taken sink.old) buffer.old (K.taken sink.new) buffer.new (K.faults sink.old) (K.faults sink.new) result (end_text_at ends.now vp) }
 {
     let Some(ending) = ending_at(ends, vp) else {
@@ -244,7 +268,11 @@ fn put_end<K: Sink>(sink: &mut K, buffer: &mut TextBuffer, ends: &[Ending], vp: 
     put_ending(sink, buffer, ending)
 }
 
-fn put_ends<K: Sink>(sink: &mut K, buffer: &mut TextBuffer, ends: &[Ending]) -> Result<(), WriteFailed>
+fn put_ends<K: Sink>(
+    sink: &mut K,
+    buffer: &mut TextBuffer,
+    ends: &[Ending],
+) -> Result<(), WriteFailed>
     ensures { Gathers (K.taken sink.old) buffer.old (K.taken sink.new) buffer.new (K.faults sink.old) (K.faults sink.new) result (flat_map (end_text_at ends.now) (range_with_len 0 (length ends.now))) }
 {
     for vp in 0..ends.len() {
@@ -253,7 +281,13 @@ fn put_ends<K: Sink>(sink: &mut K, buffer: &mut TextBuffer, ends: &[Ending]) -> 
     Ok(())
 }
 
-fn put_word<K: Sink>(sink: &mut K, buffer: &mut TextBuffer, at: usize, opening: u64, value: u64) -> Result<(), WriteFailed>
+fn put_word<K: Sink>(
+    sink: &mut K,
+    buffer: &mut TextBuffer,
+    at: usize,
+    opening: u64,
+    value: u64,
+) -> Result<(), WriteFailed>
     ensures { Gathers (K.taken sink.old) buffer.old (K.taken sink.new) buffer.new (K.faults sink.old) (K.faults sink.new) result (changed_text at opening value) }
 {
     if opening == value {
@@ -274,7 +308,12 @@ fn put_word<K: Sink>(sink: &mut K, buffer: &mut TextBuffer, at: usize, opening: 
     )
 }
 
-fn put_words<K: Sink>(sink: &mut K, buffer: &mut TextBuffer, script: &Script, words: &[u64]) -> Result<(), WriteFailed>
+fn put_words<K: Sink>(
+    sink: &mut K,
+    buffer: &mut TextBuffer,
+    script: &Script,
+    words: &[u64],
+) -> Result<(), WriteFailed>
     ensures { Gathers (K.taken sink.old) buffer.old (K.taken sink.new) buffer.new (K.faults sink.old) (K.faults sink.new) result (flat_map (word_text (opening_words script.now) words.now) (range_with_len 0 (length words.now))) }
 {
     let mut opening = [0u64; 512];
@@ -293,21 +332,35 @@ fn put_head<K: Sink>(sink: &mut K, buffer: &mut TextBuffer) -> Result<(), WriteF
 }
 
 #[tactic(auto, unfolding(crate::specs::Text::marks_text))]
-fn put_all_marks<K: Sink>(sink: &mut K, buffer: &mut TextBuffer, script: &Script, report: &Report) -> Result<(), WriteFailed>
+fn put_all_marks<K: Sink>(
+    sink: &mut K,
+    buffer: &mut TextBuffer,
+    script: &Script,
+    report: &Report,
+) -> Result<(), WriteFailed>
     ensures { Gathers (K.taken sink.old) buffer.old (K.taken sink.new) buffer.new (K.faults sink.old) (K.faults sink.new) result (marks_text script.now report.now) }
 {
     put_marks(sink, buffer, script, report.lines.as_slice())
 }
 
 #[tactic(auto, unfolding(crate::specs::Text::ends_text))]
-fn put_all_ends<K: Sink>(sink: &mut K, buffer: &mut TextBuffer, report: &Report) -> Result<(), WriteFailed>
+fn put_all_ends<K: Sink>(
+    sink: &mut K,
+    buffer: &mut TextBuffer,
+    report: &Report,
+) -> Result<(), WriteFailed>
     ensures { Gathers (K.taken sink.old) buffer.old (K.taken sink.new) buffer.new (K.faults sink.old) (K.faults sink.new) result (ends_text report.now) }
 {
     put_ends(sink, buffer, report.ends.as_slice())
 }
 
 #[tactic(auto, unfolding(crate::specs::Text::words_text))]
-fn put_all_words<K: Sink>(sink: &mut K, buffer: &mut TextBuffer, script: &Script, report: &Report) -> Result<(), WriteFailed>
+fn put_all_words<K: Sink>(
+    sink: &mut K,
+    buffer: &mut TextBuffer,
+    script: &Script,
+    report: &Report,
+) -> Result<(), WriteFailed>
     ensures { Gathers (K.taken sink.old) buffer.old (K.taken sink.new) buffer.new (K.faults sink.old) (K.faults sink.new) result (words_text script.now report.now) }
 {
     put_words(sink, buffer, script, report.words.as_slice())
@@ -320,7 +373,12 @@ fn put_close<K: Sink>(sink: &mut K, buffer: &mut TextBuffer) -> Result<(), Write
     buffer.put(sink, b"close\n")
 }
 
-fn put_report<K: Sink>(sink: &mut K, buffer: &mut TextBuffer, report: &Report, script: &Script) -> Result<(), WriteFailed>
+fn put_report<K: Sink>(
+    sink: &mut K,
+    buffer: &mut TextBuffer,
+    report: &Report,
+    script: &Script,
+) -> Result<(), WriteFailed>
     ensures { Gathers (K.taken sink.old) buffer.old (K.taken sink.new) buffer.new (K.faults sink.old) (K.faults sink.new) result (text script.now report.now) }
 {
     put_head(sink, buffer)?;
