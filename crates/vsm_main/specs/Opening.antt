@@ -8,9 +8,11 @@ use Rattle.guest_script.specs.declared.script.Script.{Script}
 abbrev pub word_count : Script → ℕ
 word_count s = 512 * s.limits.pages
 
+-- the words with one that the script gives
 abbrev pub with_word : List ℕ → Page × ℕ × ℕ → List ℕ
 with_word words w = slice_set words (memory_place w.0.0 w.1) w.2
 
+-- the masks with one that the script gives
 abbrev pub with_mask : List ℕ → Page × ℕ → List ℕ
 with_mask masks m = slice_set masks m.0.0 m.1
 

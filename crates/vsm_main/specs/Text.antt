@@ -1,5 +1,5 @@
 -- The text of a report.
-use Rattle.std.specs.Prelude.{◌≡◌, ℕ, ◌+◌, ◌*◌, ◌/◌, ◌%◌, ◌<◌, List, [], ◌∷◌, ◌++◌, length, Option, Some, None, if◌then◌else◌, ◌==◌, codes, slice_get, slice_index}
+use Rattle.std.specs.Prelude.{ℕ, ◌/◌, ◌%◌, List, [], ◌∷◌, ◌++◌, length, Option, Some, None, if◌then◌else◌, ◌==◌, codes, slice_get, slice_index}
 use Rattle.std.specs.List.{concat, flat_map, range_with_len}
 use Rattle.std.specs.Fmt.{decimal}
 use Rattle.vsm_base.specs.Levels.{level_number}
@@ -94,7 +94,7 @@ unfoldable pub place_text : MarkLine → Op → List ℕ
 place_text l op =
     concat (decimal l.vp.0 ∷ codes "." ∷ decimal (level_number l.mark.level) ∷ codes " " ∷ decimal l.mark.rip ∷ codes " " ∷ op_word op ∷ [])
 
--- what an attempt came to, up to the end of its line; nothing yet for what no operation of a script comes to
+-- what an attempt came to, up to the end of its line; the outcomes that tell nothing here come with operations that no script of this language has yet
 abbrev pub what_text : What → List ℕ
 what_text (whats.Granted g) =
     line (codes " ok page " ∷ decimal g.page.0 ∷ codes " mask " ∷ mask_word g.mask ∷ codes " gen " ∷ decimal g.generation ∷ codes " value 0x" ∷ hex_digits 16 g.value ∷ [])
