@@ -7,7 +7,11 @@ use Rattle.std.proofs.lemmas.List.Sums.{fold_more}
 use Rattle.vsm_base.specs.declared.places.Page.{Page}
 use Rattle.vsm_core.specs.Whole.{memory_place}
 use Rattle.guest_script.specs.declared.script.Script.{Script}
-use Rattle.vsm_main.specs.Opening.{IsPage, opening_words, with_word, word_count, words_so_far}
+use Rattle.vsm_main.specs.Opening.{IsPage, opening_words, with_word, word_count}
+
+-- the memory words when the first so many are given
+abbrev pub words_so_far : Script → ℕ → List ℕ
+words_so_far s i = fold with_word (replicate (word_count s) 0) (take i s.words)
 
 -- among zeros and past them there is 0
 zero_at : (n i : ℕ) → slice_index (replicate n 0) i ≡ 0

@@ -1,5 +1,5 @@
 -- The text of a report.
-use Rattle.std.specs.Prelude.{◌≡◌, ℕ, ◌+◌, ◌*◌, ◌/◌, ◌%◌, ◌<◌, List, [], ◌∷◌, ◌++◌, length, Option, Some, None, if◌then◌else◌, ◌==◌, codes, slice_get, slice_index}
+use Rattle.std.specs.Prelude.{ℕ, ◌/◌, ◌%◌, List, [], ◌∷◌, ◌++◌, length, Option, Some, None, if◌then◌else◌, ◌==◌, codes, slice_get, slice_index}
 use Rattle.std.specs.List.{concat, flat_map, range_with_len}
 use Rattle.std.specs.Fmt.{decimal}
 use Rattle.vsm_base.specs.Levels.{level_number}
@@ -49,6 +49,7 @@ op_word (ops.Ack name) = codes "ack"
 op_word ops.Eoi = codes "eoi"
 op_word ops.Eom = codes "eom"
 
+-- the word of an access
 abbrev pub access_word : Access → List ℕ
 access_word Read = codes "read"
 access_word Write = codes "write"
@@ -60,6 +61,7 @@ posted_word posted.Slot = codes "slot"
 posted_word posted.Waiting = codes "waiting"
 posted_word posted.Held = codes "held"
 
+-- the word of a guest fault
 abbrev pub fault_word : GuestFault → List ℕ
 fault_word faults.Align = codes "align"
 fault_word faults.Noncanonical = codes "noncanonical"
@@ -78,6 +80,7 @@ abbrev pub operations : Program → Vtl → List Op
 operations program Zero = program.zero
 operations program One = program.one
 
+-- the operation that stands at a mark's level and Rip in a program
 abbrev pub operation_in : Option Program → Mark → Option Op
 operation_in None mark = None
 operation_in (Some program) mark = slice_get (operations program mark.level) mark.rip
@@ -91,7 +94,7 @@ unfoldable pub place_text : MarkLine → Op → List ℕ
 place_text l op =
     concat (decimal l.vp.0 ∷ codes "." ∷ decimal (level_number l.mark.level) ∷ codes " " ∷ decimal l.mark.rip ∷ codes " " ∷ op_word op ∷ [])
 
--- what an attempt came to, up to the end of its line; nothing yet for what no operation of a script comes to
+-- what an attempt came to, up to the end of its line; the outcomes that tell nothing here come with operations that no script of this language has yet
 abbrev pub what_text : What → List ℕ
 what_text (whats.Granted g) =
     line (codes " ok page " ∷ decimal g.page.0 ∷ codes " mask " ∷ mask_word g.mask ∷ codes " gen " ∷ decimal g.generation ∷ codes " value 0x" ∷ hex_digits 16 g.value ∷ [])
@@ -100,6 +103,7 @@ what_text (whats.Denied d) =
 what_text (whats.Fault kind) = line (codes " fault " ∷ fault_word kind ∷ [])
 what_text _ = line []
 
+-- the line of a mark of this operation
 abbrev pub marked_text : MarkLine → Option Op → List ℕ
 marked_text l None = []
 marked_text l (Some op) = place_text l op ++ what_text l.mark.what
@@ -122,6 +126,7 @@ ending_text (endings.Fault kind) = line (codes "fault " ∷ fault_word kind ∷ 
 ending_text endings.Unstarted = line (codes "unstarted" ∷ [])
 ending_text endings.Cut = line (codes "cut" ∷ [])
 
+-- the line of a processor of this ending, if there is one
 abbrev pub end_text : ℕ → Option Ending → List ℕ
 end_text vp None = []
 end_text vp (Some ending) = ended_text vp ++ ending_text ending
@@ -135,6 +140,7 @@ abbrev pub changed_text : ℕ → ℕ → ℕ → List ℕ
 changed_text at opening value =
     if opening == value then [] else line (codes "word " ∷ decimal (at / 512) ∷ codes ":" ∷ decimal (at % 512) ∷ codes " 0x" ∷ hex_digits 16 value ∷ [])
 
+-- the same by the lists of all opening values and of all values
 abbrev pub word_text : List ℕ → List ℕ → ℕ → List ℕ
 word_text opening words at = changed_text at (slice_index opening at) (slice_index words at)
 

@@ -9,7 +9,6 @@ mod serve;
 mod walk;
 mod writer;
 
-pub use pieces::{Piece, put_pieces};
 pub use report::{MarkLine, Report};
 pub use serve::{Status, serve_plain, vsm};
 use std::process::ExitCode;
@@ -17,6 +16,9 @@ use std::{env, io};
 use vsm_base::{StdSink, StdSource};
 pub use walk::trace;
 pub use writer::write;
+
+#[cfg(test)]
+mod writer_tests;
 
 fn main(rt: HostRuntime) -> io::Result<ExitCode> {
     let mut words = Vec::new(rt.alloc());

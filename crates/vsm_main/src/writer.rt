@@ -127,7 +127,7 @@ fn put_place<K: Sink>(
     )
 }
 
-// What comes of operations that no script has yet is not told.
+// The outcomes that tell nothing here come with operations that no script of this language has yet.
 fn put_what<K: Sink>(sink: &mut K, buffer: &mut TextBuffer, what: &What) -> Result<(), WriteFailed>
     ensures { Gathers (K.taken sink.old) buffer.old (K.taken sink.new) buffer.new (K.faults sink.old) (K.faults sink.new) result (what_text what.now) }
 {

@@ -1,6 +1,6 @@
-use Rattle.std.proofs.Common.{◌*◌, arith}
-use Rattle.vsm_main.specs.Opening.{word_count, words_so_far}
-use Rattle.vsm_main.proofs.PageWords.{page_of_zeros, page_more, page_whole, length-words_so_far}
+use Rattle.std.proofs.Common.{arith}
+use Rattle.vsm_main.specs.Opening.{word_count}
+use Rattle.vsm_main.proofs.PageWords.{words_so_far, page_of_zeros, page_more, page_whole, length-words_so_far}
 use Rattle.vsm_main.proofs.opening.opening_page.Goals as goal
 
 pub loop-word-init : goal.loop-word-init

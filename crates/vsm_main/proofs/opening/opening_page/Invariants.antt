@@ -1,4 +1,5 @@
-use Rattle.vsm_main.specs.Opening.{IsPage, words_so_far}
+use Rattle.vsm_main.specs.Opening.{IsPage}
+use Rattle.vsm_main.proofs.PageWords.{words_so_far}
 use Rattle.vsm_main.proofs.opening.opening_page.Given as goal
 
 abbrev pub invariant-loop-word : goal.invariant-loop-word

@@ -1,4 +1,4 @@
-use Rattle.std.proofs.Common.{Ok, length, take, ◌*◌, ◌/◌, ◌%◌, ◌<◌, ◌-◌, ◌+◌}
+use Rattle.std.proofs.Common.{Ok, length, take, ◌/◌, ◌%◌, ◌<◌}
 use Rattle.std.specs.List.{flat_map, range_with_len}
 use Rattle.vsm_base.specs.Whole.{Gathers}
 use Rattle.vsm_main.specs.Opening.{opening_words, IsPage}

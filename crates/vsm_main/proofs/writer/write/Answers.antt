@@ -1,4 +1,3 @@
-use Rattle.std.proofs.lemmas.Result.{err_from_is_err_and}
 use Rattle.vsm_base.proofs.Gathering.{gathers_put}
 use Rattle.vsm_main.proofs.writer.write.Goals as goal
 
