@@ -1,7 +1,7 @@
 // All of a source's bytes, and a whole text into a sink.
-ghost use Rattle.std.specs.Prelude.{◌≡◌, ◌≤◌, IfOk, IsErrOf};
+ghost use Rattle.std.specs.Prelude.{◌≡◌, ◌≤◌, IfOk, OnErr, IsErrOf};
 ghost use Rattle.vsm_base.specs.Outside.{Rose};
-ghost use Rattle.vsm_base.specs.Whole.{ReadsWhole, ReadsTooMuch, Puts};
+ghost use Rattle.vsm_base.specs.Whole.{ReadsWhole, ReadsTooMuch, LosesFront, Puts};
 ghost use Rattle.vsm_base.specs.declared.whole.InputError.TheVariants.{Memory};
 
 use crate::{Got, Put, Sink, Source};
@@ -44,6 +44,7 @@ pub fn read_whole<S: Source>(alloc: Global, source: &mut S) -> Result<Vec<u8>, I
     ensures whole { IfOk result (λ v. ReadsWhole (S.left source.old) (S.left source.new) v.items) }
     ensures too_long { IsErrOf result InputError.TooLong → ReadsTooMuch (S.left source.old) (S.left source.new) }
     ensures failed { IsErrOf result InputError.Failed → Rose (S.faults source.old) (S.faults source.new) }
+    ensures front { OnErr result (LosesFront (S.left source.old) (S.left source.new)) }
     ensures later { S.faults source.old ≤ S.faults source.new }
 {
     let mut bytes = Vec::new(alloc);
