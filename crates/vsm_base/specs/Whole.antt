@@ -20,6 +20,10 @@ pub record ReadsTooMuch (old new : Option (List ℕ)) : Type 0 where
   pub came : old ≡ prepend_known bytes new
   pub long : length bytes ≡ limit + 1
 
+-- a front of what was left came
+abbrev pub LosesFront : Option (List ℕ) → Option (List ℕ) → Type 0
+LosesFront old new = (bytes : List ℕ) × (old ≡ prepend_known bytes new)
+
 -- a front of the text was appended
 abbrev pub AppendsFront : Option (List ℕ) → Option (List ℕ) → List ℕ → Type 0
 AppendsFront old new text = (n : ℕ) × (new ≡ append_known old (take n text))

@@ -39,7 +39,7 @@ impl Mask {
         }
     }
 
-    /// The mask that allows every access.
+    /// The mask that allows every access, 15.
     pub fn all() -> Mask
         ensures { result ≡ 15 }
     {
@@ -54,7 +54,8 @@ impl Mask {
         self.bits
     }
 
-    /// Whether a page with this mask may be used so. An execution needs both of its bits.
+    /// Whether a page with this mask may be used so: a read needs bit value 1, a write 2, and an execution both
+    /// 4 and 8, which is this project's own rule, since it has no mode of the processor.
     pub fn allows(self, access: Access) -> bool
         ensures { result ≡ allows self access }
     {

@@ -3,65 +3,122 @@ ghost use Rattle.std.specs.Prelude.{◌≡◌, ◌≢◌, ◌==◌, find, IfSome
 ghost use Rattle.vsm_base.specs.Names.{number_of, is_shared, spelling, is_spelled, all_names, named_by};
 ghost use Rattle.vsm_base.specs.declared.name.Name.{Name};
 
-/// A register that a processor keeps, by its name (TLFS, HV_REGISTER_NAME). The numbers, and which registers
-/// the levels share, are this project's own table after the TLFS.
+/// A register that a virtual processor keeps, by its name (TLFS, HV_REGISTER_NAME; Intel SDM, volume 1, Basic
+/// Execution Environment, and volume 3, System Architecture Overview). The numbers, and which registers the
+/// levels share, are this project's own table after the TLFS.
 #[derive(Clone, Copy, Debug, PartialEq, Eq)]
 pub enum Name {
+    /// The general register RAX.
     Rax,
+    /// The general register RCX.
     Rcx,
+    /// The general register RDX.
     Rdx,
+    /// The general register RBX.
     Rbx,
+    /// The stack pointer RSP.
     Rsp,
+    /// The general register RBP.
     Rbp,
+    /// The general register RSI.
     Rsi,
+    /// The general register RDI.
     Rdi,
+    /// The general register R8.
     R8,
+    /// The general register R9.
     R9,
+    /// The general register R10.
     R10,
+    /// The general register R11.
     R11,
+    /// The general register R12.
     R12,
+    /// The general register R13.
     R13,
+    /// The general register R14.
     R14,
+    /// The general register R15.
     R15,
+    /// The instruction pointer RIP.
     Rip,
+    /// The flags register RFLAGS.
     Rflags,
+    /// The control register CR0.
     Cr0,
+    /// The control register CR2.
     Cr2,
+    /// The control register CR3.
     Cr3,
+    /// The control register CR4.
     Cr4,
+    /// The control register CR8.
     Cr8,
+    /// The debug register DR0.
     Dr0,
+    /// The debug register DR1.
     Dr1,
+    /// The debug register DR2.
     Dr2,
+    /// The debug register DR3.
     Dr3,
+    /// The debug register DR6.
     Dr6,
+    /// The debug register DR7.
     Dr7,
+    /// The segment register ES.
     Es,
+    /// The segment register CS.
     Cs,
+    /// The segment register SS.
     Ss,
+    /// The segment register DS.
     Ds,
+    /// The segment register FS.
     Fs,
+    /// The segment register GS.
     Gs,
+    /// The local descriptor table register LDTR.
     Ldtr,
+    /// The task register TR.
     Tr,
+    /// The interrupt descriptor table register IDTR.
     Idtr,
+    /// The global descriptor table register GDTR.
     Gdtr,
+    /// The model-specific register IA32_EFER.
     Efer,
+    /// The model-specific register IA32_KERNEL_GS_BASE.
     KernelGsBase,
+    /// The model-specific register IA32_PAT.
     Pat,
+    /// The model-specific register IA32_SYSENTER_CS.
     SysenterCs,
+    /// The model-specific register IA32_SYSENTER_EIP.
     SysenterEip,
+    /// The model-specific register IA32_SYSENTER_ESP.
     SysenterEsp,
+    /// The model-specific register IA32_STAR.
     Star,
+    /// The model-specific register IA32_LSTAR.
     Lstar,
+    /// The model-specific register IA32_CSTAR.
     Cstar,
+    /// The model-specific register IA32_FMASK.
     Sfmask,
+    /// The synthetic register of the virtual processor's assist page (TLFS, HvRegisterVpAssistPage).
     VpAssistPage,
+    /// The synthetic interrupt source 0 (TLFS, HvRegisterSint0).
     Sint0,
+    /// The control register of the synthetic interrupt controller (TLFS, HvRegisterScontrol).
     Scontrol,
+    /// The page of synthetic messages (TLFS, HvRegisterSimp).
     Simp,
+    /// Which accesses to registers level 1 intercepts (TLFS, HvRegisterCrInterceptControl).
     CrInterceptControl,
+    /// The bits of CR0 whose change level 1 intercepts (TLFS, HvRegisterCrInterceptCr0Mask).
     CrInterceptCr0Mask,
+    /// The bits of CR4 whose change level 1 intercepts (TLFS, HvRegisterCrInterceptCr4Mask).
     CrInterceptCr4Mask,
 }
 
@@ -164,7 +221,7 @@ impl Name {
         with_spelling(&ALL, word)
     }
 
-    /// Its number.
+    /// Its number (TLFS, HV_REGISTER_NAME), as this project's table has it.
     pub fn number(self) -> u32
         ensures { result ≡ number_of self }
     {
@@ -228,7 +285,8 @@ impl Name {
         }
     }
 
-    /// Whether both levels have it as one. The registers of level 1's intercepts are kept once too.
+    /// Whether both levels have it as one (TLFS, Virtual Secure Mode, shared state), and else each level has its
+    /// own. The registers of level 1's intercepts are kept once too, which is this project's own rule.
     pub fn shared(self) -> bool
         ensures { result ≡ is_shared self }
     {
@@ -261,7 +319,7 @@ impl Name {
         }
     }
 
-    /// How it is spelled.
+    /// How the script and the report spell it, which is this project's own: the name of the variant, in ASCII.
     pub fn text(self) -> &'static [u8]
         ensures { result.now ≡ spelling self }
     {

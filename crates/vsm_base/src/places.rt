@@ -5,7 +5,9 @@ ghost use Rattle.vsm_base.specs.Levels.{level_number};
 /// A virtual trust level (TLFS, Virtual Secure Mode). Level 0 is the less privileged.
 #[derive(Clone, Copy, Debug, PartialEq, Eq)]
 pub enum Vtl {
+    /// Level 0.
     Zero,
+    /// Level 1, the more privileged.
     One,
 }
 
@@ -23,23 +25,27 @@ impl Vtl {
     }
 }
 
-/// The number of a virtual processor, from 0.
+/// The index of a virtual processor, from 0 (TLFS, HV_VP_INDEX). A run has at most 8, so it is below 8 there.
 #[derive(Clone, Copy, Debug, PartialEq, Eq)]
 pub struct VpIndex(pub u8);
 
-/// The number of a guest physical page of 4,096 bytes, from 0.
+/// The number of a guest physical page of 4,096 bytes, from 0 (TLFS, Guest Physical Address Spaces). A run has
+/// at most 256, so it is below 256 there.
 #[derive(Clone, Copy, Debug, PartialEq, Eq)]
 pub struct Page(pub u32);
 
-/// A guest virtual address, in bytes.
+/// A guest virtual address, in bytes (TLFS, Guest Virtual Address Spaces).
 #[derive(Clone, Copy, Debug, PartialEq, Eq)]
 pub struct Gva(pub u64);
 
-/// What an access does to the word that it reaches.
+/// What an access does to the word that it reaches (TLFS, HV_INTERCEPT_ACCESS_TYPE).
 #[derive(Clone, Copy, Debug, PartialEq, Eq)]
 pub enum Access {
+    /// It reads the word.
     Read,
+    /// It writes the word.
     Write,
+    /// It fetches the word as an instruction.
     Execute,
 }
 

@@ -1,5 +1,5 @@
 // Text that is gathered before it goes to a sink.
-ghost use Rattle.std.specs.Prelude.{◌≡◌, [], ◌∷◌, OnOk};
+ghost use Rattle.std.specs.Prelude.{◌≡◌, [], ◌∷◌, OnOk, OnErr};
 ghost use Rattle.vsm_base.specs.Whole.{Puts, Gathers};
 
 use crate::{Sink, WriteFailed, put_whole};
@@ -8,7 +8,8 @@ use std::marker::Model;
 
 const CAPACITY: usize = 4096;
 
-/// Text on its way to a sink, of which at most 4,096 bytes are held. Contracts see the bytes that are held.
+/// Text on its way to a sink, of which at most 4,096 bytes are held. Contracts see the bytes that are held. It
+/// takes no memory. This project's own.
 #[derive(Drop)]
 pub struct TextBuffer {
     bytes: ArrayVec<u8, CAPACITY>,
@@ -23,7 +24,7 @@ impl Model for TextBuffer {
 }
 
 impl TextBuffer {
-    /// Nothing is held.
+    /// A buffer that holds nothing.
     pub fn new() -> TextBuffer
         ensures { result ≡ [] }
     {
@@ -32,10 +33,12 @@ impl TextBuffer {
         }
     }
 
-    /// Hands what is held to the sink.
+    /// Hands what is held to the sink, and then holds nothing. `WriteFailed` at the first write that fails: a
+    /// front of what is held was written, and all of it is still held.
     pub fn flush<K: Sink>(&mut self, sink: &mut K) -> Result<(), WriteFailed>
         ensures put { Puts (K.taken sink.old) (K.taken sink.new) (K.faults sink.old) (K.faults sink.new) result self.old }
         ensures empty { OnOk result (self.new ≡ []) }
+        ensures held { OnErr result (self.new ≡ self.old) }
     {
         put_whole(sink, self.bytes.as_slice())?;
         self.bytes.clear();
@@ -52,7 +55,8 @@ impl TextBuffer {
         Ok(())
     }
 
-    /// Adds text behind what is held, and hands over the buffer each time that it is full.
+    /// Adds text behind what is held, and hands what is held to the sink each time that the buffer is full and
+    /// more comes. `WriteFailed` at the first write that fails: a front of what was held and the text was written.
     pub fn put<K: Sink>(&mut self, sink: &mut K, text: &[u8]) -> Result<(), WriteFailed>
         ensures { Gathers (K.taken sink.old) self.old (K.taken sink.new) self.new (K.faults sink.old) (K.faults sink.new) result text.now }
     {
