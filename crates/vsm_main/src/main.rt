@@ -18,6 +18,10 @@ pub use walk::trace;
 pub use writer::write;
 
 #[cfg(test)]
+mod cases;
+#[cfg(test)]
+mod tests;
+#[cfg(test)]
 mod writer_tests;
 
 fn main(rt: HostRuntime) -> io::Result<ExitCode> {

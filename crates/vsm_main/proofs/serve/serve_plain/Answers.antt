@@ -8,13 +8,13 @@ returns-then-not-is_trace-clause-says g c =
 pub returns-in-Err-Refused-clause-says : goal.returns-in-Err-Refused-clause-says
 returns-in-Err-Refused-clause-says g c =
     let said = rw c.in-Err-Refused.field-0-is at c.in-Err-Refused.ensures.said in (
-  search rules,
-  record {
-    bytes = c.in-Ok.bytes.items;
-    read = c.in-Ok.ensures.whole;
-    refusal = said.1.0;
-    refused = rw (← c.as_slice.ensures.value) said.1.1;
-    result = c.put_whole-in-Err-Refused.result;
-    put = c.put_whole-in-Err-Refused.ensures;
-  },
-)
+      search rules,
+      record {
+        bytes = c.in-Ok.bytes.items;
+        read = c.in-Ok.ensures.whole;
+        refusal = said.1.0;
+        refused = rw (← c.as_slice.ensures.value) said.1.1;
+        result = c.put_whole-in-Err-Refused.result;
+        put = c.put_whole-in-Err-Refused.ensures;
+      },
+    )

@@ -1,0 +1,184 @@
+// Scripts, each with its report as it was written by hand.
+use crate::Status;
+
+/// A script and what the program writes of it.
+#[derive(Clone, Copy)]
+pub struct Case {
+    pub name: &'static str,
+    pub script: &'static [u8],
+    pub status: Status,
+    pub text: &'static [u8],
+}
+
+pub const EMPTY_PROGRAM: Case = Case {
+    name: "empty program",
+    script: b"\
+vsm 1\n\
+vps 1\n\
+pages 1\n\
+budget 10\n\
+started 1\n\
+end\n\
+",
+    status: Status::Ok,
+    text: b"\
+vsm-report 1 trace\n\
+end 0 done\n\
+close\n\
+",
+};
+
+pub const DENIED_STORE: Case = Case {
+    name: "denied store",
+    script: b"\
+vsm 1\n\
+vps 1\n\
+pages 2\n\
+budget 10\n\
+started 1\n\
+mask 1 1\n\
+word 1 0 5\n\
+program 0 0\n\
+load Rax 0x1000\n\
+store 0x1000 7\n\
+schedule 0 0\n\
+end\n\
+",
+    status: Status::Ok,
+    text: b"\
+vsm-report 1 trace\n\
+0.0 0 load ok page 1 mask 1 gen 0 value 0x0000000000000005\n\
+0.0 1 store denied page 1 mask 1 gen 0 access write held\n\
+end 0 held\n\
+close\n\
+",
+};
+
+pub const LAST_WORD_AND_UNMAPPED: Case = Case {
+    name: "last word and unmapped",
+    script: b"\
+vsm 1\n\
+vps 1\n\
+pages 2\n\
+budget 10\n\
+started 1\n\
+program 0 0\n\
+load Rax 0x1ff8\n\
+load Rax 0x2000\n\
+schedule 0*5\n\
+end\n\
+",
+    status: Status::Ok,
+    text: b"\
+vsm-report 1 trace\n\
+0.0 0 load ok page 1 mask 15 gen 0 value 0x0000000000000000\n\
+0.0 1 load fault unmapped\n\
+end 0 fault unmapped\n\
+close\n\
+",
+};
+
+pub const BUDGET: Case = Case {
+    name: "budget",
+    script: b"\
+vsm 1\n\
+vps 1\n\
+pages 3\n\
+budget 3\n\
+started 1\n\
+mask 1 3\n\
+word 2 511 0x10\n\
+program 0 0\n\
+store 0x1ff8 0xAb\n\
+load R15 0x2ff8\n\
+store 0x2008 4\n\
+load Rax 0\n\
+schedule 0*2 0\n\
+schedule 0\n\
+end\n\
+",
+    status: Status::Ok,
+    text: b"\
+vsm-report 1 trace\n\
+0.0 0 store ok page 1 mask 3 gen 0 value 0x00000000000000ab\n\
+0.0 1 load ok page 2 mask 15 gen 0 value 0x0000000000000010\n\
+0.0 2 store ok page 2 mask 15 gen 0 value 0x0000000000000004\n\
+end 0 budget\n\
+word 1:511 0x00000000000000ab\n\
+word 2:1 0x0000000000000004\n\
+close\n\
+",
+};
+
+pub const CUT: Case = Case {
+    name: "cut",
+    script: b"\
+vsm 1\n\
+vps 1\n\
+pages 1\n\
+budget 5\n\
+started 1\n\
+mask 0 13\n\
+program 0 0\n\
+load Rsp 8\n\
+load Rax 9\n\
+schedule 0\n\
+end\n\
+",
+    status: Status::Ok,
+    text: b"\
+vsm-report 1 trace\n\
+0.0 0 load ok page 0 mask 13 gen 0 value 0x0000000000000000\n\
+end 0 cut\n\
+close\n\
+",
+};
+
+pub const MISALIGNED: Case = Case {
+    name: "misaligned",
+    script: b"\
+vsm 1\n\
+vps 1\n\
+pages 1\n\
+budget 5\n\
+started 1\n\
+mask 0 13\n\
+program 0 0\n\
+load Rsp 8\n\
+load Rax 9\n\
+schedule 0*7\n\
+end\n\
+",
+    status: Status::Ok,
+    text: b"\
+vsm-report 1 trace\n\
+0.0 0 load ok page 0 mask 13 gen 0 value 0x0000000000000000\n\
+0.0 1 load fault align\n\
+end 0 fault align\n\
+close\n\
+",
+};
+
+pub const CUT_IN_A_WORD: Case = Case {
+    name: "cut in a word",
+    script: b"\
+vsm 1\n\
+vps 1\n\
+pages 1\n\
+budget 10\n\
+star",
+    status: Status::Refused,
+    text: b"\
+refused\n\
+",
+};
+
+pub const ALL: [Case; 7] = [
+    EMPTY_PROGRAM,
+    DENIED_STORE,
+    LAST_WORD_AND_UNMAPPED,
+    BUDGET,
+    CUT,
+    MISALIGNED,
+    CUT_IN_A_WORD,
+];
