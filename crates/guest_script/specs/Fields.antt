@@ -20,9 +20,11 @@ abbrev pub Gives : {X Y : Type 0} → (X → Y) → Result X Why → Result Y Wh
 Gives view (Ok x) said = said ≡ Ok (view x)
 Gives view (Err why) said = said ≡ Err why
 
+-- the words of a line that are still to be read
 abbrev pub Words : Type 0
 Words = List (List ℕ)
 
+-- the number of a word, where it is in range
 abbrev in_range : ℕ → ℕ → Option ℕ → Words → Result (ℕ × Words) Why
 in_range low high None words = Err BadNumber
 in_range low high (Some n) words = if nat_le low n && nat_lt n high then Ok (n, words) else Err OutOfRange
@@ -56,6 +58,7 @@ is_general names.R14 = true
 is_general names.R15 = true
 is_general _ = false
 
+-- the register of a word, where it may stand there
 abbrev named : Option Name → Words → Result (Name × Words) Why
 named None words = Err BadName
 named (Some name) words = if is_general name then Ok (name, words) else Err BadName
@@ -70,11 +73,13 @@ unfoldable pub no_more : Words → Result (Unit {0}) Why
 no_more [] = Ok tt
 no_more (word ∷ words) = Err ExtraWord
 
+-- an entry of these two numbers, where each is in range
 abbrev counted : ℕ → Option ℕ → Option ℕ → Result Turns Why
 counted vps None count = Err BadEntry
 counted vps (Some vp) None = Err BadEntry
 counted vps (Some vp) (Some count) = if nat_lt vp vps && nat_le 1 count && nat_le count 100000 then Ok (record { vp = record { 0 = vp }; single = false; count = count }) else Err OutOfRange
 
+-- an entry whose word has its first star here, or none
 abbrev starred : ℕ → Option ℕ → List ℕ → Result Turns Why
 starred vps None word = counted vps (numeral 10 39 word) (Some 1)
 starred vps (Some at) word = counted vps (numeral 10 39 (take at word)) (numeral 10 39 (drop (at + 1) word))

@@ -16,6 +16,7 @@ use Rattle.guest_script.specs.declared.reading.Reading.{Reading}
 abbrev pub start : Reading
 start = record { stage = Vsm; limits = record { vps = 1; pages = 1; budget = 1 }; started = 1; masks = []; words = []; programs = nothings 1; begun = []; schedule = [] }
 
+-- `end` has been read
 abbrev pub is_done : Stage → Bool
 is_done Done = true
 is_done _ = false

@@ -108,6 +108,7 @@ program_line r ws = do
   end ← no_more level.1
   if is_begun vp.0 level.0 r.begun then Err Twice else Ok (record r { stage = stages.Program vp.0 level.0; begun = r.begun ++ (vp.0, level.0) ∷ [] })
 
+-- one more operation of the program that this stage names
 abbrev with_op_at : Stage → Reading → Op → Result Reading Why
 with_op_at (stages.Program vp level) r op =
     if nat_lt (length (operations (program_at r.programs vp) level)) 4096 then Ok (record r { programs = added r.programs vp level op }) else Err TooMany
@@ -133,6 +134,7 @@ store_line r ws = do
   end ← no_more value.1
   with_op r (ops.Store (record { 0 = address.0 }) (Number value.0))
 
+-- all the words as entries, of which there is one at least
 abbrev some_entries : ℕ → Words → Result (List Turns) Why
 some_entries vps [] = Err MissingWord
 some_entries vps (word ∷ ws) = entries vps (word ∷ ws)
@@ -164,10 +166,12 @@ after_words r words.Store ws = store_line r ws
 after_words r words.Schedule ws = schedule_line r ws
 after_words r words.End ws = end_line r ws
 
+-- the reading after a line of this kind, where it can stand here
 abbrev after_keyword : Reading → Option Keyword → Words → Result Reading Why
 after_keyword r None ws = Err UnknownWord
 after_keyword r (Some keyword) ws = if stands keyword r.stage then after_words r keyword ws else Err OutOfOrder
 
+-- the reading after a line of these words
 abbrev after_first : Reading → Words → Result Reading Why
 after_first r [] = Err UnknownWord
 after_first r (word ∷ ws) = after_keyword r (keyword_of word) ws

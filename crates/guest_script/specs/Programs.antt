@@ -7,6 +7,7 @@ use Rattle.vsm_core.specs.declared.operation.Program.{Program}
 abbrev pub nothing : Program
 nothing = record { zero = []; one = [] }
 
+-- so many programs that aren't given
 abbrev pub nothings : ℕ → List Program
 nothings n = replicate n nothing
 

@@ -15,6 +15,7 @@ abbrev pub IsOfSome : Stage → ℕ → Type 0
 IsOfSome (stages.Program vp level) vps = vp < vps
 IsOfSome _ vps = Unit {0}
 
+-- what has been read keeps the limits of a script
 pub record IsSound (r : Reading) : Type 0 where
   pub within : IsWithin (script_of r)
   pub begun : IsOfSome r.stage r.limits.vps

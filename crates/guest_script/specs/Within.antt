@@ -11,6 +11,7 @@ most_vps = 1
 abbrev pub most_levels : ℕ
 most_levels = 1
 
+-- a script keeps the limits
 pub record IsWithin (s : Script) : Type 0 where
   pub vps_some : 1 ≤ s.limits.vps
   pub vps_few : s.limits.vps ≤ most_vps

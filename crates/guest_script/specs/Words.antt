@@ -3,6 +3,7 @@ use Rattle.std.specs.Prelude.{◌≡◌, ℕ, ◌+◌, ◌*◌, ◌<◌, List, g
 use Rattle.std.specs.List.{list_any}
 use Rattle.vsm_base.specs.declared.places.Page.{Page}
 
+-- the page of this number
 abbrev pub page_of : ℕ → Page
 page_of x = record { 0 = x }
 
