@@ -1,5 +1,5 @@
 -- A processor as contracts see it, and what holds of it between two calls.
-use Rattle.std.specs.Prelude.{◌≡◌, ◌<◌, ◌≤◌, ℕ, true, None, length}
+use Rattle.std.specs.Prelude.{◌≡◌, ◌<◌, true, None, length}
 use Rattle.vsm_core.specs.Processor.{Vp}
 use Rattle.cpu.specs.declared.processor.Cpu.TheInside.{Inside}
 

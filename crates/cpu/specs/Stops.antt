@@ -1,7 +1,7 @@
 -- What a whole attempt comes to.
 use Rattle.std.specs.Prelude.{◌≡◌, ℕ, ◌+◌, List, slice_index, slice_set}
 use Rattle.vsm_base.specs.declared.places.Access.{Access}
-use Rattle.vsm_base.specs.declared.places.Access.TheVariants.{Read, Write, Execute}
+use Rattle.vsm_base.specs.declared.places.Access.TheVariants.{Write}
 use Rattle.vsm_core.specs.declared.mark.What.{What}
 use Rattle.vsm_core.specs.declared.mark.What.TheVariants.{Granted}
 use Rattle.vsm_core.specs.Fills.{Cached}

@@ -9,8 +9,8 @@ use Rattle.vsm_core.specs.declared.operation.Op.TheVariants.{Load, Store}
 use Rattle.vsm_core.specs.Tree.{Tree, Ends, Asks, Wants, Masking, then_, Within}
 use Rattle.vsm_core.specs.State.{State, put, gone_on, operand}
 use Rattle.vsm_core.specs.Fills.{Fill, Translation, straight}
-use Rattle.vsm_core.specs.Access.{Goal, Decision, Denies, Faults, data_step, by_mask, at_page, from_check, access, page_of, fill_of}
-use Rattle.vsm_core.specs.Attempt.{Outcome, attempt, by_access, leaves, faulted}
+use Rattle.vsm_core.specs.Access.{Goal, Denies, Faults, data_step, by_mask, at_page, access, page_of, fill_of}
+use Rattle.vsm_core.specs.Attempt.{attempt, by_access, leaves, faulted}
 
 pub Within-weaker : {A : Type 0} (n m : ℕ) (t : Tree A) → n ≤ m → Within n t → Within m t
 Within-weaker n m (Ends a) le h = tt

@@ -1,5 +1,5 @@
 -- The shared words answer an attempt as their masks, generation and memory do.
-use Rattle.std.proofs.Common.{◌≡◌, ◌≢◌, ◌<◌, ◌≤◌, ◌+◌, ◌*◌, ℕ, List, [], ◌∷◌, refl, sym, ap, ◌∙◌, subst, arith, slice_index, slice_set, take, drop}
+use Rattle.std.proofs.Common.{◌≡◌, ◌<◌, ◌+◌, ℕ, List, [], ◌∷◌, refl, sym, ap, ◌∙◌, subst, arith, slice_index, slice_set}
 use Rattle.std.proofs.lemmas.List.{take-set-le, drop-set-lt, drop-set-add, get_or-take, get_or-drop, get_or-set_other}
 use Rattle.vsm_base.specs.declared.places.Limits.{Limits}
 use Rattle.vsm_core.specs.declared.event.Event.{Event}
@@ -9,7 +9,7 @@ use Rattle.vsm_core.specs.State.{State}
 use Rattle.vsm_core.specs.Attempt.{attempt}
 use Rattle.vsm_core.proofs.Soundness.{attempt-sound}
 use Rattle.vsm_core.specs.Sound.{Sound, IsOver, MayStep, phase_of, made}
-use Rattle.vsm_core.specs.Whole.{Stop, run_on, answer_in, words_after, memory_place}
+use Rattle.vsm_core.specs.Whole.{run_on, answer_in, words_after, memory_place}
 use Rattle.vsm_core.specs.Words.{Holds, SameStop, steps_on, answer_of, words_by, busy_at, memory_at, generation_at}
 
 -- a busy word is none of them

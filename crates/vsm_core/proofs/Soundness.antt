@@ -1,5 +1,5 @@
 -- An attempt asks only what may be asked.
-use Rattle.std.proofs.Common.{◌≡◌, ◌≢◌, ◌<◌, ◌%◌, ◌/◌, ◌==◌, ℕ, Bool, true, false, cond, nat_lt, Option, Some, List, ◌∷◌, refl, subst, arith}
+use Rattle.std.proofs.Common.{◌≡◌, ◌≢◌, ◌<◌, ◌%◌, ◌==◌, ℕ, Bool, true, false, cond, nat_lt, Option, Some, List, refl, subst, arith}
 use Rattle.std.proofs.lemmas.Bool.Decides.{nat_tests}
 use Rattle.vsm_base.specs.declared.places.Access.{Access}
 use Rattle.vsm_base.specs.declared.places.Access.TheVariants.{Read, Write, Execute}
@@ -12,8 +12,8 @@ use Rattle.vsm_core.specs.declared.operation.Op.TheVariants.{Load, Store}
 use Rattle.vsm_core.specs.Tree.{Tree, Ends, Asks, Wants, Masking, then_}
 use Rattle.vsm_core.specs.State.{State, put, gone_on, operand}
 use Rattle.vsm_core.specs.Fills.{Fill, Translation, straight}
-use Rattle.vsm_core.specs.Access.{Goal, Decision, Denies, Faults, data_step, by_mask, at_page, access, page_of, index_of, fill_of}
-use Rattle.vsm_core.specs.Attempt.{Outcome, attempt, by_access, leaves, faulted}
+use Rattle.vsm_core.specs.Access.{Goal, Decision, Denies, Faults, data_step, by_mask, at_page, access, page_of, fill_of}
+use Rattle.vsm_core.specs.Attempt.{attempt, by_access, leaves, faulted}
 use Rattle.vsm_core.specs.Sound.{Sound, IsOver, IsIn, phase_of}
 
 -- first the one, and then what its end says

@@ -1,5 +1,5 @@
 -- Walking a schedule step by step comes to what whole attempts come to.
-use Rattle.std.proofs.Common.{◌≡◌, ◌<◌, ◌≤◌, ◌+◌, ◌*◌, ℕ, zero, suc, Bool, true, false, cond, is_some, nat_lt, Option, Some, None, List, [], ◌∷◌, ◌++◌, fold, length, take, drop, replicate, slice_get, slice_index, refl, sym, ap, ◌∙◌, subst, append_assoc, unwrap_or, ◌-◌, arith}
+use Rattle.std.proofs.Common.{◌≡◌, ◌<◌, ◌≤◌, ◌+◌, ◌*◌, ℕ, zero, suc, Bool, true, false, cond, is_some, Option, Some, None, List, [], ◌∷◌, ◌++◌, fold, length, take, drop, replicate, slice_get, slice_index, refl, sym, ap, ◌∙◌, subst, append_assoc, unwrap_or, ◌-◌, arith}
 use Rattle.std.proofs.lemmas.List.{length-append, length-replicate, length-set, get_or-append_right, get_or-replicate}
 use Rattle.std.proofs.Math.ListN.{get_or-append}
 use Rattle.std.proofs.Math.Seq.{take-append_seam, drop-append_seam}
@@ -10,14 +10,13 @@ use Rattle.vsm_core.specs.declared.operation.Program.{Program}
 use Rattle.vsm_base.specs.declared.places.Limits.{Limits}
 use Rattle.vsm_core.specs.State.{State}
 use Rattle.vsm_core.specs.Attempt.{Outcome}
-use Rattle.vsm_core.specs.Processor.{Vp, tree_of, settled, settled_at, attempted}
+use Rattle.vsm_core.specs.Processor.{Vp, tree_of, settled, attempted}
 use Rattle.vsm_core.specs.Tree.{Tree, Ends, Asks, Wants}
 use Rattle.vsm_core.specs.Whole.{Stop, run_on}
 use Rattle.vsm_core.specs.Words.{Holds, SameStop, steps_on, memory_at}
 use Rattle.vsm_core.proofs.SameAnswers.{attempt-same}
 use Rattle.guest_script.specs.declared.script.Turns.{Turns}
 use Rattle.guest_script.specs.declared.script.Script.{Script}
-use Rattle.vsm_main.specs.declared.report.Report.{Report}
 use Rattle.vsm_main.specs.Schedule.{after_turns, after_entry, after_line, after_schedule}
 use Rattle.guest_script.specs.Within.{IsWithin}
 use Rattle.vsm_main.specs.Opening.{opening_masks, opening_words, with_mask}

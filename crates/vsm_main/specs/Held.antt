@@ -1,5 +1,5 @@
 -- A run under way as contracts see it.
-use Rattle.std.specs.Prelude.{◌≡◌, ◌*◌, ℕ, true, length}
+use Rattle.std.specs.Prelude.{◌≡◌, ◌*◌, true, length}
 use Rattle.vsm_main.specs.FlatRun.{World}
 use Rattle.vsm_main.specs.declared.walk.Walk.TheInside.{Inside}
 

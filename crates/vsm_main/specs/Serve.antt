@@ -1,7 +1,6 @@
 -- What the top call does.
 use Rattle.std.specs.Prelude.{◌≡◌, ◌⊎◌, ℕ, List, [], ◌∷◌, ◌++◌, length, Bool, true, false, if◌then◌else◌, nat_lt, codes, Option, Result, Ok, Err}
 use Rattle.std.specs.Str.{bytes_eq}
-use Rattle.std.specs.Io.KnownBytes.{append_known}
 use Rattle.vsm_base.specs.Outside.{Rose}
 use Rattle.vsm_base.specs.Whole.{limit, ReadsWhole, ReadsTooMuch, Puts}
 use Rattle.vsm_base.specs.declared.whole.WriteFailed.{WriteFailed}

@@ -1,6 +1,5 @@
-use Rattle.std.proofs.Common.{arith, sym, slice_index, ◌≡◌, ◌/◌, ◌%◌, ◌<◌, true, false, ◌∙◌}
+use Rattle.std.proofs.Common.{arith, sym, slice_index, ◌≡◌, ◌/◌, ◌<◌, ◌∙◌}
 use Rattle.std.proofs.lemmas.List.{get_or_read_under}
-use Rattle.vsm_base.specs.Masks.{allows}
 use Rattle.cpu.proofs.Accesses.{denied, granted_so}
 use Rattle.cpu.proofs.access.access.Goals as goal
 

@@ -1,5 +1,5 @@
 use Rattle.std.proofs.Common.{ap, ◌∙◌, slice_get}
-use Rattle.vsm_core.specs.Processor.{Did, attempted}
+use Rattle.vsm_core.specs.Processor.{Did}
 use Rattle.cpu.specs.Sound.{view_of}
 use Rattle.cpu.proofs.Accesses.{attempted_so, one_more, stays}
 use Rattle.cpu.proofs.processor.Cpu.attempt.Goals as goal
