@@ -1,6 +1,7 @@
 -- What the top call does.
 use Rattle.std.specs.Prelude.{◌≡◌, ◌⊎◌, ℕ, List, [], ◌∷◌, ◌++◌, length, Bool, true, false, if◌then◌else◌, nat_lt, codes, Option, Result, Ok, Err}
 use Rattle.std.specs.Str.{bytes_eq}
+use Rattle.std.specs.Io.KnownBytes.{append_known}
 use Rattle.vsm_base.specs.Outside.{Rose}
 use Rattle.vsm_base.specs.Whole.{limit, ReadsWhole, ReadsTooMuch, Puts}
 use Rattle.vsm_base.specs.declared.whole.WriteFailed.{WriteFailed}
@@ -92,3 +93,7 @@ abbrev pub Decides : Status → Status → Type 0
 Decides statuses.Ok status = (status ≡ statuses.Ok) ⊎ ((status ≡ statuses.WriteFault) ⊎ (status ≡ statuses.Memory))
 Decides statuses.Usage status = status ≡ statuses.Usage
 Decides said status = (status ≡ said) ⊎ (status ≡ statuses.Memory)
+
+-- the whole text was put, or memory ran out
+abbrev pub Completes : Ends → Script → Status → Type 0
+Completes e s status = ((status ≡ statuses.Ok) × (e.taken_after ≡ append_known e.taken (text s (flat s)))) ⊎ (status ≡ statuses.Memory)

@@ -1,7 +1,10 @@
 // The top call.
-ghost use Rattle.std.specs.Prelude.{◌≡◌, ◌≤◌, ◌↔◌, List, ℕ, map, string_bytes, Some, Ok, Result, false};
+ghost use Rattle.std.specs.Prelude.{◌≡◌, ◌≤◌, ◌↔◌, List, ℕ, length, map, string_bytes, Some, Ok, true, false};
 ghost use Rattle.vsm_base.specs.Outside.{Rose};
-ghost use Rattle.vsm_main.specs.Serve.{is_trace, Says, Decides, status_of};
+ghost use Rattle.vsm_base.specs.Whole.{limit};
+ghost use Rattle.guest_script.specs.Grammar.{script};
+ghost use Rattle.guest_script.specs.declared.script.Script.{Script};
+ghost use Rattle.vsm_main.specs.Serve.{is_trace, Says, Decides, Completes, status_of};
 
 use crate::{trace, write};
 use guest_script::{ReadError, read};
@@ -38,16 +41,12 @@ fn is_trace(words: &[String]) -> bool
     }
 }
 
-/// Does what the words say, over this source and sink: `trace` reads a script and writes the report of its run.
-/// It waits for nobody. The order in which statuses are tried is this project's own: the words, the reading,
-/// the script, memory, the writing; want of memory while reading comes before the script.
-pub fn serve_plain<S: Source, K: Sink>(
+fn served<S: Source, K: Sink>(
     alloc: Global,
     words: &[String],
     source: &mut S,
     sink: &mut K,
 ) -> Status
-    // What each status says.
     ensures says { Says result (map string_bytes words.now) (record {
       left = S.left source.old;
       left_after = S.left source.new;
@@ -58,8 +57,6 @@ pub fn serve_plain<S: Source, K: Sink>(
       writes = K.faults sink.old;
       writes_after = K.faults sink.new;
     }) }
-
-    // Which status it is, where the input is told and no read fails.
     ensures decides { (bytes : List ℕ) → S.left source.old ≡ Some bytes
         → (Rose (S.faults source.old) (S.faults source.new) → ⊥)
         → Decides (status_of (map string_bytes words.now) bytes) result }
@@ -94,14 +91,16 @@ pub fn serve_plain<S: Source, K: Sink>(
     }
 }
 
-/// Does what the words say, as `serve_plain`. A later command is run by threads; `trace` uses none.
-pub fn vsm<R: Threads + Wait + Sync, S: Source, K: Sink>(
-    _rt: &R,
+/// Does what the words say, over this source and sink: `trace` reads a script and writes the report of its run.
+/// It waits for nobody. The order in which statuses are tried is this project's own: the words, the reading,
+/// the script, memory, the writing; want of memory while reading comes before the script.
+pub fn serve_plain<S: Source, K: Sink>(
     alloc: Global,
     words: &[String],
     source: &mut S,
     sink: &mut K,
 ) -> Status
+    // What each status says.
     ensures says { Says result (map string_bytes words.now) (record {
       left = S.left source.old;
       left_after = S.left source.new;
@@ -112,9 +111,83 @@ pub fn vsm<R: Threads + Wait + Sync, S: Source, K: Sink>(
       writes = K.faults sink.old;
       writes_after = K.faults sink.new;
     }) }
+
+    // Which status it is, where the input is told and no read fails.
     ensures decides { (bytes : List ℕ) → S.left source.old ≡ Some bytes
         → (Rose (S.faults source.old) (S.faults source.new) → ⊥)
         → Decides (status_of (map string_bytes words.now) bytes) result }
+
+    // The words alone decide on the usage.
+    ensures usage { (result ≡ Status.Usage) ↔ (is_trace (map string_bytes words.now) ≡ false) }
+
+    // A script that is told gets its whole text, where neither end fails and memory is there.
+    ensures completes { (bytes : List ℕ) (s : Script) → is_trace (map string_bytes words.now) ≡ true
+        → S.left source.old ≡ Some bytes → length bytes ≤ limit → script bytes ≡ Ok s
+        → (Rose (S.faults source.old) (S.faults source.new) → ⊥)
+        → (Rose (K.faults sink.old) (K.faults sink.new) → ⊥)
+        → Completes (record {
+          left = S.left source.old;
+          left_after = S.left source.new;
+          reads = S.faults source.old;
+          reads_after = S.faults source.new;
+          taken = K.taken sink.old;
+          taken_after = K.taken sink.new;
+          writes = K.faults sink.old;
+          writes_after = K.faults sink.new;
+        }) s result }
+
+    // The counts of faults never fall.
+    ensures reads_later { S.faults source.old ≤ S.faults source.new }
+    ensures writes_later { K.faults sink.old ≤ K.faults sink.new }
+{
+    served(alloc, words, source, sink)
+}
+
+/// Does what the words say, as `serve_plain`. A later command is run by threads; `trace` uses none.
+pub fn vsm<R: Threads + Wait + Sync, S: Source, K: Sink>(
+    _rt: &R,
+    alloc: Global,
+    words: &[String],
+    source: &mut S,
+    sink: &mut K,
+) -> Status
+    // What each status says.
+    ensures says { Says result (map string_bytes words.now) (record {
+      left = S.left source.old;
+      left_after = S.left source.new;
+      reads = S.faults source.old;
+      reads_after = S.faults source.new;
+      taken = K.taken sink.old;
+      taken_after = K.taken sink.new;
+      writes = K.faults sink.old;
+      writes_after = K.faults sink.new;
+    }) }
+
+    // Which status it is, where the input is told and no read fails.
+    ensures decides { (bytes : List ℕ) → S.left source.old ≡ Some bytes
+        → (Rose (S.faults source.old) (S.faults source.new) → ⊥)
+        → Decides (status_of (map string_bytes words.now) bytes) result }
+
+    // The words alone decide on the usage.
+    ensures usage { (result ≡ Status.Usage) ↔ (is_trace (map string_bytes words.now) ≡ false) }
+
+    // A script that is told gets its whole text, where neither end fails and memory is there.
+    ensures completes { (bytes : List ℕ) (s : Script) → is_trace (map string_bytes words.now) ≡ true
+        → S.left source.old ≡ Some bytes → length bytes ≤ limit → script bytes ≡ Ok s
+        → (Rose (S.faults source.old) (S.faults source.new) → ⊥)
+        → (Rose (K.faults sink.old) (K.faults sink.new) → ⊥)
+        → Completes (record {
+          left = S.left source.old;
+          left_after = S.left source.new;
+          reads = S.faults source.old;
+          reads_after = S.faults source.new;
+          taken = K.taken sink.old;
+          taken_after = K.taken sink.new;
+          writes = K.faults sink.old;
+          writes_after = K.faults sink.new;
+        }) s result }
+
+    // The counts of faults never fall.
     ensures reads_later { S.faults source.old ≤ S.faults source.new }
     ensures writes_later { K.faults sink.old ≤ K.faults sink.new }
 {
