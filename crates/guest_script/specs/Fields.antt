@@ -1,9 +1,12 @@
 -- What the words of a line say, one after another, or why the line is refused.
-use Rattle.std.specs.Prelude.{ℕ, ◌+◌, List, [], ◌∷◌, take, drop, Bool, true, false, ◌&&◌, if◌then◌else◌, ◌==◌, nat_lt, nat_le, Option, Some, None, Result, Ok, Err, position, ◌≡◌}
+use Rattle.std.specs.Prelude.{ℕ, ◌+◌, ◌^◌, List, [], ◌∷◌, take, drop, Bool, true, false, ◌&&◌, if◌then◌else◌, ◌==◌, nat_lt, nat_le, Option, Some, None, Result, Ok, Err, position, ◌≡◌}
+use Rattle.std.specs.Char.{is_ascii_alphabetic}
 use Rattle.vsm_base.specs.Masks.{is_mask}
 use Rattle.vsm_base.specs.Names.{named_by}
 use Rattle.vsm_base.specs.declared.name.Name.{Name}
 use Rattle.vsm_base.specs.declared.name.Name.TheVariants as names
+use Rattle.vsm_core.specs.declared.operation.Operand.{Operand}
+use Rattle.vsm_core.specs.declared.operation.Operand.TheVariants.{Number, Register}
 use Rattle.guest_script.specs.Numbers.{number_of, numeral}
 use Rattle.guest_script.specs.declared.script.Turns.{Turns}
 use Rattle.guest_script.specs.declared.script.Why.{Why}
@@ -24,15 +27,21 @@ Gives view (Err why) said = said ≡ Err why
 abbrev pub Words : Type 0
 Words = List (List ℕ)
 
--- the number of a word, where it is in range
-abbrev in_range : ℕ → ℕ → Option ℕ → Words → Result (ℕ × Words) Why
-in_range low high None words = Err BadNumber
-in_range low high (Some n) words = if nat_le low n && nat_lt n high then Ok (n, words) else Err OutOfRange
+-- what a word spells, where it spells something, and the words after it
+abbrev spelled : {A : Type 0} → Why → Option A → Words → Result (A × Words) Why
+spelled why None words = Err why
+spelled why (Some x) words = Ok (x, words)
+
+-- any number, which is below 2^128, and the words after it
+unfoldable pub any_number : Words → Result (ℕ × Words) Why
+any_number [] = Err MissingWord
+any_number (word ∷ words) = spelled BadNumber (number_of word) words
 
 -- a number from low on and below high, and the words after it
 unfoldable pub number : ℕ → ℕ → Words → Result (ℕ × Words) Why
-number low high [] = Err MissingWord
-number low high (word ∷ words) = in_range low high (number_of word) words
+number low high words = do
+  n ← any_number words
+  if nat_le low n.0 && nat_lt n.0 high then Ok n else Err OutOfRange
 
 -- the mask of these bits
 abbrev pub valid_mask : ℕ → Result ℕ Why
@@ -58,15 +67,59 @@ is_general names.R14 = true
 is_general names.R15 = true
 is_general _ = false
 
--- the register of a word, where it may stand there
-abbrev named : Option Name → Words → Result (Name × Words) Why
-named None words = Err BadName
-named (Some name) words = if is_general name then Ok (name, words) else Err BadName
+-- a general register, whose value a store may write
+abbrev pub is_operand : Name → Bool
+is_operand names.Rsp = false
+is_operand name = is_general name
+
+-- a register that set and get may name: not Cr0 while there is no paging, and never Rip or a register of level 1's
+-- intercepts
+abbrev pub is_named : Name → Bool
+is_named names.Rip = false
+is_named names.Cr0 = false
+is_named names.CrInterceptControl = false
+is_named names.CrInterceptCr0Mask = false
+is_named names.CrInterceptCr4Mask = false
+is_named _ = true
+
+-- the name of any register, and the words after it
+unfoldable pub any_register : Words → Result (Name × Words) Why
+any_register [] = Err MissingWord
+any_register (word ∷ words) = spelled BadName (named_by word) words
 
 -- the name of a general register or Rsp, and the words after it
 unfoldable pub register : Words → Result (Name × Words) Why
-register [] = Err MissingWord
-register (word ∷ words) = named (named_by word) words
+register words = do
+  name ← any_register words
+  if is_general name.0 then Ok name else Err BadName
+
+-- the name of a register that set and get may name, and the words after it
+unfoldable pub named_register : Words → Result (Name × Words) Why
+named_register words = do
+  name ← any_register words
+  if is_named name.0 then Ok name else Err BadName
+
+-- a word begins with a letter
+abbrev pub begins_with_letter : List ℕ → Bool
+begins_with_letter [] = false
+begins_with_letter (b ∷ word) = is_ascii_alphabetic b
+
+-- the name of a general register as what a store writes, and the words after it
+unfoldable pub register_operand : Words → Result (Operand × Words) Why
+register_operand words = do
+  name ← any_register words
+  if is_operand name.0 then Ok (Register name.0, name.1) else Err BadName
+
+-- a number below 2^64 as what a store writes, and the words after it
+unfoldable pub number_operand : Words → Result (Operand × Words) Why
+number_operand words = do
+  n ← number 0 (2 ^ 64) words
+  Ok (Number n.0, n.1)
+
+-- what a store writes, and the words after it; a word that begins with a letter is a register's name
+unfoldable pub operand : Words → Result (Operand × Words) Why
+operand [] = Err MissingWord
+operand (word ∷ words) = if begins_with_letter word then register_operand (word ∷ words) else number_operand (word ∷ words)
 
 -- no word is left
 unfoldable pub no_more : Words → Result (Unit {0}) Why

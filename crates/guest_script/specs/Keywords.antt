@@ -17,6 +17,8 @@ all_keywords =
     words.Mask ∷
     words.Word ∷
     words.Program ∷
+    words.Set ∷
+    words.Get ∷
     words.Load ∷
     words.Store ∷
     words.Schedule ∷
@@ -32,6 +34,8 @@ spelling words.Started = codes "started"
 spelling words.Mask = codes "mask"
 spelling words.Word = codes "word"
 spelling words.Program = codes "program"
+spelling words.Set = codes "set"
+spelling words.Get = codes "get"
 spelling words.Load = codes "load"
 spelling words.Store = codes "store"
 spelling words.Schedule = codes "schedule"
@@ -55,6 +59,8 @@ stands words.Mask stages.Memory = true
 stands words.Word stages.Memory = true
 stands words.Program stages.Memory = true
 stands words.Program (stages.Program vp level) = true
+stands words.Set (stages.Program vp level) = true
+stands words.Get (stages.Program vp level) = true
 stands words.Load (stages.Program vp level) = true
 stands words.Store (stages.Program vp level) = true
 stands words.Schedule stages.Memory = true

@@ -4,9 +4,8 @@ use Rattle.std.specs.List.{list_any, list_all}
 use Rattle.vsm_base.specs.declared.places.Page.{Page}
 use Rattle.vsm_core.specs.declared.operation.Op.{Op}
 use Rattle.vsm_core.specs.declared.operation.Op.TheVariants as ops
-use Rattle.vsm_core.specs.declared.operation.Operand.TheVariants.{Number}
 use Rattle.guest_script.specs.Lines.{words_of}
-use Rattle.guest_script.specs.Fields.{Words, ◌>>=◌, number, valid_mask, register, no_more, entries}
+use Rattle.guest_script.specs.Fields.{Words, ◌>>=◌, any_number, number, valid_mask, register, named_register, operand, no_more, entries}
 use Rattle.guest_script.specs.Keywords.{keyword_of, stands}
 use Rattle.guest_script.specs.Programs.{nothings, operations, program_at, added}
 use Rattle.guest_script.specs.Schedules.{turns_of, all_turns}
@@ -118,6 +117,21 @@ with_op_at _ r op = Err OutOfOrder
 abbrev pub with_op : Reading → Op → Result Reading Why
 with_op r op = with_op_at r.stage r op
 
+-- set NAME V
+unfoldable pub set_line : Reading → Words → Result Reading Why
+set_line r ws = do
+  target ← named_register ws
+  value ← any_number target.1
+  end ← no_more value.1
+  with_op r (ops.Set target.0 value.0)
+
+-- get NAME
+unfoldable pub get_line : Reading → Words → Result Reading Why
+get_line r ws = do
+  name ← named_register ws
+  end ← no_more name.1
+  with_op r (ops.Get name.0)
+
 -- load REG GVA
 unfoldable pub load_line : Reading → Words → Result Reading Why
 load_line r ws = do
@@ -126,13 +140,13 @@ load_line r ws = do
   end ← no_more address.1
   with_op r (ops.Load target.0 (record { 0 = address.0 }))
 
--- store GVA V
+-- store GVA V or store GVA REG
 unfoldable pub store_line : Reading → Words → Result Reading Why
 store_line r ws = do
   address ← number 0 (2 ^ 64) ws
-  value ← number 0 (2 ^ 64) address.1
+  value ← operand address.1
   end ← no_more value.1
-  with_op r (ops.Store (record { 0 = address.0 }) (Number value.0))
+  with_op r (ops.Store (record { 0 = address.0 }) value.0)
 
 -- all the words as entries, of which there is one at least
 abbrev some_entries : ℕ → Words → Result (List Turns) Why
@@ -161,6 +175,8 @@ after_words r words.Started ws = started_line r ws
 after_words r words.Mask ws = mask_line r ws
 after_words r words.Word ws = word_line r ws
 after_words r words.Program ws = program_line r ws
+after_words r words.Set ws = set_line r ws
+after_words r words.Get ws = get_line r ws
 after_words r words.Load ws = load_line r ws
 after_words r words.Store ws = store_line r ws
 after_words r words.Schedule ws = schedule_line r ws

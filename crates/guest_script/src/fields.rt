@@ -1,18 +1,18 @@
 // The fields of a line.
 ghost use Rattle.std.specs.Prelude.{◌≡◌, ◌<◌, ◌≤◌, IfOk, position, ◌==◌};
 ghost use Rattle.guest_script.specs.Lines.{words_of};
-ghost use Rattle.guest_script.specs.Fields.{Gives, number, is_general, register, no_more, entry};
+ghost use Rattle.guest_script.specs.Fields.{Gives, any_number, number, is_general, is_operand, is_named, any_register, register, named_register, begins_with_letter, register_operand, number_operand, operand, no_more, entry};
 
 use crate::numbers::{number_of, numeral};
 use crate::words::next_word;
 use crate::{Turns, Why};
 use vsm_base::{Name, VpIndex};
+use vsm_core::Operand;
 
-/// A number from `low` on and below `high`, and what follows it.
-#[tactic(auto, unfolding(crate::specs::Fields::number))]
-pub fn number(line: &[u8], low: u128, high: u128) -> Result<(u128, &[u8]), Why>
-    ensures said { Gives (λ x. (x.0, words_of x.1.now)) result (number low high (words_of line.now)) }
-    ensures in_range { IfOk result (λ x. (low ≤ x.0) × (x.0 < high)) }
+/// Any number, and what follows it.
+#[tactic(auto, unfolding(crate::specs::Fields::any_number))]
+pub fn any_number(line: &[u8]) -> Result<(u128, &[u8]), Why>
+    ensures { Gives (λ x. (x.0, words_of x.1.now)) result (any_number (words_of line.now)) }
 {
     let Some((word, rest)) = next_word(line) else {
         return Err(Why::MissingWord);
@@ -20,6 +20,16 @@ pub fn number(line: &[u8], low: u128, high: u128) -> Result<(u128, &[u8]), Why>
     let Some(n) = number_of(word) else {
         return Err(Why::BadNumber);
     };
+    Ok((n, rest))
+}
+
+/// A number from `low` on and below `high`, and what follows it.
+#[tactic(auto, unfolding(crate::specs::Fields::number))]
+pub fn number(line: &[u8], low: u128, high: u128) -> Result<(u128, &[u8]), Why>
+    ensures said { Gives (λ x. (x.0, words_of x.1.now)) result (number low high (words_of line.now)) }
+    ensures in_range { IfOk result (λ x. (low ≤ x.0) × (x.0 < high)) }
+{
+    let (n, rest) = any_number(line)?;
     if low <= n && n < high {
         Ok((n, rest))
     } else {
@@ -52,10 +62,34 @@ fn is_general(name: Name) -> bool
     }
 }
 
-/// The name of a general register or Rsp, and what follows it.
-#[tactic(auto, unfolding(crate::specs::Fields::register))]
-pub fn register(line: &[u8]) -> Result<(Name, &[u8]), Why>
-    ensures { Gives (λ x. (x.0, words_of x.1.now)) result (register (words_of line.now)) }
+// Whether it is a general register, whose value a store may write.
+fn is_operand(name: Name) -> bool
+    ensures { result ≡ is_operand name }
+{
+    match name {
+        Name::Rsp => false,
+        _ => is_general(name),
+    }
+}
+
+// Whether `set` and `get` may name it. Not Cr0 while there is no paging.
+fn is_named(name: Name) -> bool
+    ensures { result ≡ is_named name }
+{
+    match name {
+        Name::Rip
+        | Name::Cr0
+        | Name::CrInterceptControl
+        | Name::CrInterceptCr0Mask
+        | Name::CrInterceptCr4Mask => false,
+        _ => true,
+    }
+}
+
+// The name of any register, and what follows it.
+#[tactic(auto, unfolding(crate::specs::Fields::any_register))]
+fn any_register(line: &[u8]) -> Result<(Name, &[u8]), Why>
+    ensures { Gives (λ x. (x.0, words_of x.1.now)) result (any_register (words_of line.now)) }
 {
     let Some((word, rest)) = next_word(line) else {
         return Err(Why::MissingWord);
@@ -63,10 +97,79 @@ pub fn register(line: &[u8]) -> Result<(Name, &[u8]), Why>
     let Some(name) = Name::spelled(word) else {
         return Err(Why::BadName);
     };
+    Ok((name, rest))
+}
+
+/// The name of a general register or Rsp, and what follows it.
+#[tactic(auto, unfolding(crate::specs::Fields::register))]
+pub fn register(line: &[u8]) -> Result<(Name, &[u8]), Why>
+    ensures { Gives (λ x. (x.0, words_of x.1.now)) result (register (words_of line.now)) }
+{
+    let (name, rest) = any_register(line)?;
     if is_general(name) {
         Ok((name, rest))
     } else {
         Err(Why::BadName)
+    }
+}
+
+/// The name of a register that `set` and `get` may name, and what follows it.
+#[tactic(auto, unfolding(crate::specs::Fields::named_register))]
+pub fn named_register(line: &[u8]) -> Result<(Name, &[u8]), Why>
+    ensures { Gives (λ x. (x.0, words_of x.1.now)) result (named_register (words_of line.now)) }
+{
+    let (name, rest) = any_register(line)?;
+    if is_named(name) {
+        Ok((name, rest))
+    } else {
+        Err(Why::BadName)
+    }
+}
+
+// Whether a word is a name where it can be a name or a number.
+fn begins_with_letter(word: &[u8]) -> bool
+    ensures { result ≡ begins_with_letter word.now }
+{
+    match word.first() {
+        None => false,
+        Some(byte) => byte.is_ascii_alphabetic(),
+    }
+}
+
+// The name of a general register as what a store writes, and what follows it.
+#[tactic(auto, unfolding(crate::specs::Fields::register_operand))]
+fn register_operand(line: &[u8]) -> Result<(Operand, &[u8]), Why>
+    ensures { Gives (λ x. (x.0, words_of x.1.now)) result (register_operand (words_of line.now)) }
+{
+    let (name, rest) = any_register(line)?;
+    if is_operand(name) {
+        Ok((Operand::Register(name), rest))
+    } else {
+        Err(Why::BadName)
+    }
+}
+
+// A number below 2^64 as what a store writes, and what follows it.
+#[tactic(auto, unfolding(crate::specs::Fields::number_operand))]
+fn number_operand(line: &[u8]) -> Result<(Operand, &[u8]), Why>
+    ensures { Gives (λ x. (x.0, words_of x.1.now)) result (number_operand (words_of line.now)) }
+{
+    let (n, rest) = number(line, 0, 1 << 64)?;
+    Ok((Operand::Number(n as u64), rest))
+}
+
+/// What a store writes, and what follows it. A word that begins with a letter is a register's name.
+#[tactic(auto, unfolding(crate::specs::Fields::operand))]
+pub fn operand(line: &[u8]) -> Result<(Operand, &[u8]), Why>
+    ensures { Gives (λ x. (x.0, words_of x.1.now)) result (operand (words_of line.now)) }
+{
+    let Some((word, _)) = next_word(line) else {
+        return Err(Why::MissingWord);
+    };
+    if begins_with_letter(word) {
+        register_operand(line)
+    } else {
+        number_operand(line)
     }
 }
 

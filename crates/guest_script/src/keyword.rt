@@ -13,6 +13,8 @@ pub enum Keyword {
     Mask,
     Word,
     Program,
+    Set,
+    Get,
     Load,
     Store,
     Schedule,
@@ -34,7 +36,7 @@ pub enum Stage {
     Done,
 }
 
-const ALL: [Keyword; 12] = [
+const ALL: [Keyword; 14] = [
     Keyword::Vsm,
     Keyword::Vps,
     Keyword::Pages,
@@ -43,6 +45,8 @@ const ALL: [Keyword; 12] = [
     Keyword::Mask,
     Keyword::Word,
     Keyword::Program,
+    Keyword::Set,
+    Keyword::Get,
     Keyword::Load,
     Keyword::Store,
     Keyword::Schedule,
@@ -63,6 +67,8 @@ impl Keyword {
             Keyword::Mask => b"mask",
             Keyword::Word => b"word",
             Keyword::Program => b"program",
+            Keyword::Set => b"set",
+            Keyword::Get => b"get",
             Keyword::Load => b"load",
             Keyword::Store => b"store",
             Keyword::Schedule => b"schedule",
@@ -102,7 +108,9 @@ pub fn stands(keyword: Keyword, stage: Stage) -> bool
         Keyword::Started => matches!(stage, Stage::Started),
         Keyword::Mask | Keyword::Word => matches!(stage, Stage::Memory),
         Keyword::Program => matches!(stage, Stage::Memory | Stage::Program(_, _)),
-        Keyword::Load | Keyword::Store => matches!(stage, Stage::Program(_, _)),
+        Keyword::Set | Keyword::Get | Keyword::Load | Keyword::Store => {
+            matches!(stage, Stage::Program(_, _))
+        }
         Keyword::Schedule | Keyword::End => {
             matches!(
                 stage,

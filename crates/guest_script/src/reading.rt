@@ -3,11 +3,11 @@ ghost use Rattle.std.specs.Prelude.{◌≡◌, IfOk};
 ghost use Rattle.std.specs.List.{list_all};
 ghost use Rattle.guest_script.specs.Lines.{words_of};
 ghost use Rattle.guest_script.specs.Fields.{entries};
-ghost use Rattle.guest_script.specs.Line.{Becomes, Collects, is_text, vsm_line, vps_line, pages_line, budget_line, started_line, mask_line, word_line, program_line, with_op, load_line, store_line, schedule_line, end_line, after_words, after_line, is_masked, is_begun};
+ghost use Rattle.guest_script.specs.Line.{Becomes, Collects, is_text, vsm_line, vps_line, pages_line, budget_line, started_line, mask_line, word_line, program_line, with_op, set_line, get_line, load_line, store_line, schedule_line, end_line, after_words, after_line, is_masked, is_begun};
 ghost use Rattle.guest_script.specs.Sound.{IsSound, script_of};
 ghost use Rattle.guest_script.specs.declared.reading.LineError.TheVariants.{Memory, Refused};
 
-use crate::fields::{entry, no_more, number, register};
+use crate::fields::{any_number, entry, named_register, no_more, number, operand, register};
 use crate::keyword::{Keyword, Stage, keyword_of, stands};
 use crate::programs::Programs;
 use crate::schedule::{Schedule, turns_of};
@@ -16,7 +16,7 @@ use crate::words::next_word;
 use crate::{Script, Turns, Why};
 use std::alloc::{AllocError, Global};
 use vsm_base::{Gva, Items, Limits, Mask, Page};
-use vsm_core::{Op, Operand};
+use vsm_core::Op;
 
 // How many processors and levels a script may have.
 const MOST_VPS: u128 = 1;
@@ -250,6 +250,29 @@ impl Reading {
         Ok(())
     }
 
+    #[tactic(auto, unfolding(crate::specs::Line::set_line))]
+    fn set_line(&mut self, rest: &[u8]) -> Result<(), LineError>
+        requires sound { IsSound self.old }
+        ensures said { Becomes self.new result (set_line self.old (words_of rest.now)) }
+        ensures sound { IsSound self.new }
+    {
+        let (target, rest) = named_register(rest)?;
+        let (value, rest) = any_number(rest)?;
+        no_more(rest)?;
+        self.add(Op::Set(target, value))
+    }
+
+    #[tactic(auto, unfolding(crate::specs::Line::get_line))]
+    fn get_line(&mut self, rest: &[u8]) -> Result<(), LineError>
+        requires sound { IsSound self.old }
+        ensures said { Becomes self.new result (get_line self.old (words_of rest.now)) }
+        ensures sound { IsSound self.new }
+    {
+        let (name, rest) = named_register(rest)?;
+        no_more(rest)?;
+        self.add(Op::Get(name))
+    }
+
     #[tactic(auto, unfolding(crate::specs::Line::load_line))]
     fn load_line(&mut self, rest: &[u8]) -> Result<(), LineError>
         requires sound { IsSound self.old }
@@ -269,9 +292,9 @@ impl Reading {
         ensures sound { IsSound self.new }
     {
         let (address, rest) = number(rest, 0, 1 << 64)?;
-        let (value, rest) = number(rest, 0, 1 << 64)?;
+        let (value, rest) = operand(rest)?;
         no_more(rest)?;
-        self.add(Op::Store(Gva(address as u64), Operand::Number(value as u64)))
+        self.add(Op::Store(Gva(address as u64), value))
     }
 
     #[tactic(auto, unfolding(crate::specs::Line::schedule_line))]
@@ -323,6 +346,8 @@ impl Reading {
             Keyword::Mask => self.mask_line(rest),
             Keyword::Word => self.word_line(rest),
             Keyword::Program => self.program_line(rest),
+            Keyword::Set => self.set_line(rest),
+            Keyword::Get => self.get_line(rest),
             Keyword::Load => self.load_line(rest),
             Keyword::Store => self.store_line(rest),
             Keyword::Schedule => self.schedule_line(alloc, rest),

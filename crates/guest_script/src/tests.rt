@@ -24,6 +24,13 @@ fn with_stores(alloc: Global, count: u32) -> Result<Vec<u8>, AllocError> {
     Ok(text)
 }
 
+fn with_operation(alloc: Global, operation: &[u8]) -> Result<Vec<u8>, AllocError> {
+    let mut text = with_head(alloc, b"program 0 0\n")?;
+    text.extend_from_slice(operation)?;
+    text.extend_from_slice(b"\nend\n")?;
+    Ok(text)
+}
+
 fn is_refused(alloc: Global, bytes: &[u8]) -> bool {
     matches!(read(alloc, bytes), Err(ReadError::Refused(_)))
 }
@@ -66,6 +73,60 @@ fn a_script_is_read_into_its_fields(rt: HostRuntime) -> Result<(), Fail> {
 }
 
 #[test]
+fn operations_on_registers_are_read_into_a_program(rt: HostRuntime) -> Result<(), Fail> {
+    let body: &[u8] =
+        b"program 0 0\nset Cs 0x3000000000000000000000000\nget Rflags\nstore 8 Rbx\nset Rbx 340282366920938463463374607431768211455\nstore 0x10 R15\nset Rsp 0\nget Simp\n set  Cr2  18446744073709551616 \nend\n";
+    let script = read(rt.alloc(), &with_head(rt.alloc(), body)?)?;
+    let program = &script.programs.as_slice()[0];
+    let ops = [
+        Op::Set(Name::Cs, 3 << 96),
+        Op::Get(Name::Rflags),
+        Op::Store(Gva(8), Operand::Register(Name::Rbx)),
+        Op::Set(Name::Rbx, u128::MAX),
+        Op::Store(Gva(16), Operand::Register(Name::R15)),
+        Op::Set(Name::Rsp, 0),
+        Op::Get(Name::Simp),
+        Op::Set(Name::Cr2, 1 << 64),
+    ];
+    assert_eq!(rt; program.zero.as_slice(), ops.as_slice());
+    assert_eq!(rt; program.one.len(), 0);
+    Ok(())
+}
+
+#[test]
+fn an_operation_is_refused_for_each_cause(rt: HostRuntime) -> Result<(), Fail> {
+    let operations: [&[u8]; 20] = [
+        b"set Cr0 1",
+        b"set Rip 1",
+        b"set CrInterceptControl 1",
+        b"set Nope 1",
+        b"set 1 1",
+        b"set",
+        b"set Rax",
+        b"set Rax Rbx",
+        b"set Rax 1 2",
+        b"set Rax 340282366920938463463374607431768211456",
+        b"get",
+        b"get Cr0",
+        b"get Rip",
+        b"get CrInterceptCr4Mask",
+        b"get Rax 1",
+        b"store 8 Rsp",
+        b"store 8 Cr2",
+        b"store 8 -1",
+        b"store 8",
+        b"store 8 Rax 1",
+    ];
+    for operation in operations {
+        let text = with_operation(rt.alloc(), operation)?;
+        assert!(rt; is_refused(rt.alloc(), &text));
+    }
+    let good = with_operation(rt.alloc(), b"store 8 Rax")?;
+    assert!(rt; read(rt.alloc(), &good).is_ok());
+    Ok(())
+}
+
+#[test]
 fn a_script_is_refused_before_its_memory(rt: HostRuntime) -> Result<(), Fail> {
     let scripts: [&[u8]; 14] = [
         b"",
@@ -91,12 +152,14 @@ fn a_script_is_refused_before_its_memory(rt: HostRuntime) -> Result<(), Fail> {
 
 #[test]
 fn a_body_is_refused_for_each_cause(rt: HostRuntime) -> Result<(), Fail> {
-    let bodies: [&[u8]; 30] = [
+    let bodies: [&[u8]; 31] = [
         b"",
         b"print\nend\n",
         b"mask 0 1\n\nend\n",
         b"started 1\nend\n",
         b"load Rax 0\nend\n",
+        b"set Rax 0\nend\n",
+        b"schedule 0\nget Rax\nend\n",
         b"schedule 0\nmask 0 1\nend\n",
         b"end\nend\n",
         b"end\nprint\n",
@@ -105,7 +168,6 @@ fn a_body_is_refused_for_each_cause(rt: HostRuntime) -> Result<(), Fail> {
         b"mask 0 0x\nend\n",
         b"mask 0 -1\nend\n",
         b"word 0 0 340282366920938463463374607431768211456\nend\n",
-        b"program 0 0\nstore 0 Rax\nend\n",
         b"program 0 0\nload Rip 0\nend\n",
         b"program 0 0\nload rax 0\nend\n",
         b"schedule 0x0\nend\n",
