@@ -1,6 +1,9 @@
 // The registers of a processor at both levels.
 ghost use Rattle.std.specs.Prelude.{◌≡◌, ◌↔◌, IsOk, IsTrue, OnOk, OnErr};
-ghost use Rattle.vsm_core.specs.Registers.{get, put, opening, is_legal};
+ghost use Rattle.std.specs.Borrow.{sem};
+ghost use Rattle.vsm_core.specs.Registers.{get, put, opening, is_legal, private_of};
+ghost use Rattle.register_file.specs.Lending.{LendsPrivate};
+ghost use Rattle.register_file.specs.Values.{private_values};
 
 use crate::legal::is_legal;
 use crate::private_set::PrivateSet;
@@ -79,5 +82,17 @@ impl Bank {
             Vtl::One => self.one.put(name, value),
         }
         Ok(())
+    }
+
+    /// This level's own registers, to be read and written in place. What is written there is that level's, and all
+    /// other registers stay.
+    pub fn private_mut(&mut self, level: Vtl) -> &mut PrivateSet
+        ensures* writes_back { sem 𝓛 (LendsPrivate self.entry level result) }
+        ensures values { private_values result.now ≡ private_of self.old level }
+    {
+        match level {
+            Vtl::Zero => &mut self.zero,
+            Vtl::One => &mut self.one,
+        }
     }
 }
