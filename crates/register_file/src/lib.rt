@@ -2,9 +2,11 @@
 #![tactic(auto)]
 
 mod bank;
+mod context;
 mod legal;
 mod private_set;
 mod shared_set;
 
 pub use bank::{BadValue, Bank};
+pub use context::Context;
 pub use private_set::PrivateSet;

@@ -76,46 +76,50 @@ pub struct PrivateSet {
     pub simp: u64,
 }
 
+/// What a level's own registers are before its first operation. This project's own table, after the Intel SDM,
+/// volume 3, Processor State After Reset.
+pub(crate) const OPENING: PrivateSet = PrivateSet {
+    rsp: 0,
+    rip: 0,
+    rflags: 2,
+    cr0: 1,
+    cr3: 0,
+    cr4: 0,
+    cr8: 0,
+    dr7: 0,
+    es: 0,
+    cs: 0,
+    ss: 0,
+    ds: 0,
+    fs: 0,
+    gs: 0,
+    ldtr: 0,
+    tr: 0,
+    idtr: 0,
+    gdtr: 0,
+    efer: 0,
+    kernel_gs_base: 0,
+    pat: 0,
+    sysenter_cs: 0,
+    sysenter_eip: 0,
+    sysenter_esp: 0,
+    star: 0,
+    lstar: 0,
+    cstar: 0,
+    sfmask: 0,
+    vp_assist_page: 0,
+    sint0: 0x10000,
+    scontrol: 0,
+    simp: 0,
+};
+
 impl PrivateSet {
     /// What a level's own registers are before its first operation.
     #[tactic(auto, unfolding(vsm_core::specs::Registers::opening_private, vsm_core::specs::Registers::private_names, vsm_core::specs::Registers::opening_value, vsm_base::specs::Names::all_names))]
     pub fn opening() -> PrivateSet
         ensures { private_values result ≡ opening_private }
     {
-        PrivateSet {
-            rsp: 0,
-            rip: 0,
-            rflags: 2,
-            cr0: 1,
-            cr3: 0,
-            cr4: 0,
-            cr8: 0,
-            dr7: 0,
-            es: 0,
-            cs: 0,
-            ss: 0,
-            ds: 0,
-            fs: 0,
-            gs: 0,
-            ldtr: 0,
-            tr: 0,
-            idtr: 0,
-            gdtr: 0,
-            efer: 0,
-            kernel_gs_base: 0,
-            pat: 0,
-            sysenter_cs: 0,
-            sysenter_eip: 0,
-            sysenter_esp: 0,
-            star: 0,
-            lstar: 0,
-            cstar: 0,
-            sfmask: 0,
-            vp_assist_page: 0,
-            sint0: 0x10000,
-            scontrol: 0,
-            simp: 0,
-        }
+        OPENING
     }
 
     /// The register of this name.
