@@ -4,9 +4,11 @@
 mod bank;
 mod context;
 mod legal;
+mod parts;
 mod private_set;
 mod shared_set;
 
 pub use bank::{BadValue, Bank};
 pub use context::Context;
+pub use parts::{Segment, Table};
 pub use private_set::PrivateSet;
