@@ -1,7 +1,7 @@
 // The registers of a processor at both levels.
 ghost use Rattle.std.specs.Prelude.{◌≡◌, ◌↔◌, IsOk, IsTrue, OnOk, OnErr};
 ghost use Rattle.std.specs.Borrow.{sem};
-ghost use Rattle.vsm_core.specs.Registers.{get, put, opening, is_legal, private_of};
+ghost use Rattle.vsm_core.specs.Registers.{get, put, opening, is_legal, private_of, IsWhole};
 ghost use Rattle.register_file.specs.Lending.{LendsPrivate};
 ghost use Rattle.register_file.specs.Values.{private_values};
 
@@ -39,7 +39,8 @@ impl Bank {
     /// The registers before the first operation, at both levels.
     #[tactic(auto, unfolding(vsm_core::specs::Registers::opening_shared, vsm_core::specs::Registers::shared_names, vsm_core::specs::Registers::opening_value, vsm_base::specs::Names::all_names))]
     pub fn opening() -> Bank
-        ensures { result ≡ opening }
+        ensures opening { result ≡ opening }
+        ensures whole { IsWhole result }
     {
         Bank {
             shared: [0; SHARED],
@@ -50,7 +51,8 @@ impl Bank {
 
     /// The register of this name, as this level sees it: one that the levels share is the same at both.
     pub fn get(&self, level: Vtl, name: Name) -> u128
-        ensures { result ≡ get self.now level name }
+        ensures value { result ≡ get self.now level name }
+        ensures whole { IsWhole self.now }
     {
         if name.shared() {
             return shared_set::get(&self.shared, name);
@@ -69,6 +71,7 @@ impl Bank {
         ensures ok { OnOk result (self.new ≡ put self.old level name value) }
         ensures err { OnErr result (self.new ≡ self.old) }
         ensures exact { IsOk result ↔ IsTrue (is_legal name value) }
+        ensures whole { OnOk result (IsWhole self.new) }
     {
         if !is_legal(name, value) {
             return Err(BadValue);
@@ -89,6 +92,7 @@ impl Bank {
     pub fn private_mut(&mut self, level: Vtl) -> &mut PrivateSet
         ensures* writes_back { sem 𝓛 (LendsPrivate self.entry level result) }
         ensures values { private_values result.now ≡ private_of self.old level }
+        ensures whole { IsWhole self.old }
     {
         match level {
             Vtl::Zero => &mut self.zero,

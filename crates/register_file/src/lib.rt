@@ -12,3 +12,6 @@ pub use bank::{BadValue, Bank};
 pub use context::Context;
 pub use parts::{Segment, Table};
 pub use private_set::PrivateSet;
+
+#[cfg(test)]
+mod tests;

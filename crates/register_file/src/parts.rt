@@ -1,6 +1,8 @@
 // The parts of the registers of 128 bits.
 ghost use Rattle.std.specs.Prelude.{◌≡◌, ◌+◌, ◌%◌, ◌^◌};
-ghost use Rattle.register_file.specs.Parts.{segment_bits, table_bits};
+ghost use Rattle.register_file.specs.Parts.{segment_bits, table_bits, IsSegment, IsTable};
+ghost use Rattle.register_file.specs.declared.parts.Segment.{Segment};
+ghost use Rattle.register_file.specs.declared.parts.Table.{Table};
 
 /// A segment register's parts (TLFS, HV_X64_SEGMENT_REGISTER).
 #[derive(Clone, Copy, Debug, PartialEq, Eq)]
@@ -18,7 +20,8 @@ pub struct Segment {
 impl Segment {
     /// The parts of a register of these bits.
     pub fn of(bits: u128) -> Segment
-        ensures { segment_bits result ≡ bits }
+        ensures bits { segment_bits result ≡ bits }
+        ensures only { (segment : Segment) → IsSegment segment → segment_bits segment ≡ bits → result ≡ segment }
     {
         Segment {
             base: (bits % (1 << 64)) as u64,
@@ -51,7 +54,8 @@ pub struct Table {
 impl Table {
     /// The parts of a register of these bits, whatever its lowest 48 bits are.
     pub fn of(bits: u128) -> Table
-        ensures { table_bits result + bits % 2 ^ 48 ≡ bits }
+        ensures bits { table_bits result + bits % 2 ^ 48 ≡ bits }
+        ensures only { (table : Table) → IsTable table → table_bits table ≡ bits → result ≡ table }
     {
         Table {
             limit: ((bits >> 48) % (1 << 16)) as u16,

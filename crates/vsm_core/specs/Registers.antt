@@ -1,5 +1,5 @@
 -- A processor's registers: which values each takes, where each is kept, and what each is at the opening.
-use Rattle.std.specs.Prelude.{ℕ, zero, suc, ◌+◌, ◌^◌, ◌%◌, ◌==◌, ◌&&◌, Bool, true, false, not, if◌then◌else◌, nat_lt, List, [], ◌∷◌, map, slice_index, slice_set, filter}
+use Rattle.std.specs.Prelude.{◌≡◌, ℕ, zero, suc, ◌+◌, ◌^◌, ◌%◌, ◌==◌, ◌&&◌, Bool, true, false, not, if◌then◌else◌, nat_lt, List, [], ◌∷◌, map, slice_index, slice_set, filter, length}
 use Rattle.vsm_base.specs.declared.name.Name.{Name}
 use Rattle.vsm_base.specs.declared.name.Name.TheVariants as names
 use Rattle.vsm_base.specs.declared.places.Vtl.{Vtl}
@@ -66,6 +66,12 @@ pub record Registers : Type 0 where
   pub shared : List ℕ
   pub zero : List ℕ
   pub one : List ℕ
+
+-- each register has its place
+pub record IsWhole (registers : Registers) : Type 0 where
+  pub shared : length registers.shared ≡ 24
+  pub zero : length registers.zero ≡ 32
+  pub one : length registers.one ≡ 32
 
 -- a level's own
 abbrev pub private_of : Registers → Vtl → List ℕ
