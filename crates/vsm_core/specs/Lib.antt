@@ -2,6 +2,7 @@ pub mod Access
 pub mod Attempt
 pub mod Fills
 pub mod Processor
+pub mod Registers
 pub mod Sound
 pub mod State
 pub mod Tree

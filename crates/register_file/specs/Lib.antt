@@ -1,0 +1,4 @@
+pub mod Contexts
+pub mod Lending
+pub mod Parts
+pub mod Values
