@@ -9,7 +9,7 @@ use Rattle.vsm_core.specs.declared.mark.What.{What}
 use Rattle.vsm_core.specs.declared.mark.What.TheVariants.{Granted, Denied}
 use Rattle.vsm_core.specs.declared.mark.Posted.TheVariants.{Held}
 use Rattle.vsm_core.specs.Fills.{Cached, Filled, straight}
-use Rattle.vsm_core.specs.State.{State, gone_on}
+use Rattle.vsm_core.specs.State.{State}
 use Rattle.vsm_core.specs.Access.{fill_of, by_mask}
 use Rattle.vsm_core.specs.Attempt.{by_access, leaves}
 use Rattle.vsm_core.specs.Tree.{then_}
@@ -17,7 +17,7 @@ use Rattle.vsm_core.specs.declared.operation.Op.{Op}
 use Rattle.vsm_core.specs.declared.operation.Program.{Program}
 use Rattle.vsm_core.specs.Processor.{Vp, AddsMark, IsSameProcessor, mark_of, marked, tree_of, settled_at, attempted}
 use Rattle.vsm_core.specs.Whole.{run_on, memory_place}
-use Rattle.cpu.specs.Stops.{Stops, goal_of, data_words, data_value, state_after, moved}
+use Rattle.cpu.specs.Stops.{Stops, goal_of, data_words, data_value}
 
 -- a multiple of 8, and a page that is there
 is_aligned : (gva : ℕ) → gva % 8 ≡ 0 → (gva % 8 == 0) ≡ true
@@ -47,37 +47,3 @@ granted_so masks words state granted Write gva value pages mask a l m d =
     (Filled Zero (fill_of (goal_of gva Write value pages) (straight (gva / 4096)) 0 mask) ∷ [], reaches masks words state granted Write gva value pages mask a l m ∙ rw d refl)
 granted_so masks words state granted Execute gva value pages mask a l m d =
     (Filled Zero (fill_of (goal_of gva Execute value pages) (straight (gva / 4096)) 0 mask) ∷ [], reaches masks words state granted Execute gva value pages mask a l m ∙ rw d refl)
-
--- a store leaves the registers
-pub store_state : (what : What) (rip : ℕ) (registers : List ℕ) → let state : State = record { rip = rip; registers = registers } in
-    state_after what state (λ _. gone_on state) ≡ record { rip = moved what rip; registers = registers }
-store_state (Granted grant) rip registers = refl
-store_state _ rip registers = refl
-
-abbrev after_rip : ℕ → What → List ℕ → State
-after_rip rip what registers = record { rip = moved what rip; registers = registers }
-
--- an attempt that has ended is the whole attempt, and its mark is left
-pub attempted_so : (u v new : Vp) (program : Program) (masks words now registers : List ℕ) (what : What) (op : Option Op) → u ≡ v → op ≡ slice_get program.zero u.state.rip
-    → Stops (run_on masks 0 words (tree_of u.limits.pages u.state op)) what (after_rip u.state.rip what registers) now
-    → ((does : List Cached) → new ≡ marked v (record { what = what; state = after_rip v.state.rip what registers; does = does }))
-    → record { vp = new; words = now } ≡ attempted program masks 0 v words
-unfolding attempted
-attempted_so u v new program masks words now registers what op e o h m =
-    let start : settled_at u (run_on masks 0 words (tree_of u.limits.pages u.state op)) ≡ record { vp = marked u (record { what = what; state = after_rip u.state.rip what registers; does = h.0 }); words = now } = ap (settled_at u) h.1 in
-    let same : record { vp = new; words = now } ≡ record { vp = marked u (record { what = what; state = after_rip u.state.rip what registers; does = h.0 }); words = now } = rw e (ap (λ (x : Vp). record { vp = x; words = now }) (m h.0)) in
-    same ∙ sym start ∙ ap (λ o. settled_at u (run_on masks 0 words (tree_of u.limits.pages u.state o))) o ∙ ap (λ x. settled_at x (run_on masks 0 words (tree_of x.limits.pages x.state (slice_get program.zero x.state.rip)))) e
-
--- exactly one mark is left
-pub one_more : (v new : Vp) (what : What) (registers : List ℕ) → ((does : List Cached) → new ≡ marked v (record { what = what; state = after_rip v.state.rip what registers; does = does })) → AddsMark v new
-one_more v new what registers m = (mark_of v.state what, ap (λ (x : Vp). x.marks) (m []))
-
--- and what it was made with stays
-pub stays : (v new : Vp) (what : What) (registers : List ℕ) → ((does : List Cached) → new ≡ marked v (record { what = what; state = after_rip v.state.rip what registers; does = does })) → IsSameProcessor v new
-stays v new what registers m = record {
-  number = ap (λ (x : Vp). x.number) (m []);
-  limits = ap (λ (x : Vp). x.limits) (m []);
-  zero_length = ap (λ (x : Vp). x.zero_length) (m []);
-  one_length = ap (λ (x : Vp). x.one_length) (m []);
-  started = ap (λ (x : Vp). x.started) (m []);
-}

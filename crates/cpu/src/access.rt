@@ -1,47 +1,97 @@
 // What an operation does to the registers and the memory words, a whole attempt at once.
-ghost use Rattle.std.specs.Prelude.{◌≡◌, ◌<◌, ◌*◌, ℕ, length, slice_set, Option, Some};
-ghost use Rattle.vsm_core.specs.State.{State, register_place, operand as operand_lem, put as put_lem, gone_on};
+ghost use Rattle.std.specs.Prelude.{◌≡◌, ◌<◌, ◌*◌, ℕ, List, length};
+ghost use Rattle.vsm_core.specs.State.{State, word_of as word_of_lem, put_legal as put_legal_lem, gone_on, is_general as is_general_lem, may_name as may_name_lem, operand as operand_lem};
 ghost use Rattle.vsm_core.specs.Attempt.{by_access, attempt};
 ghost use Rattle.vsm_core.specs.Processor.{tree_of};
 ghost use Rattle.vsm_core.specs.Whole.{run_on};
-ghost use Rattle.cpu.specs.Stops.{Stops, state_after, goal_of, data_words, data_value, moved};
+ghost use Rattle.cpu.specs.Stops.{Stops, state_of, state_after, goal_of, data_words, data_value};
 
-use vsm_base::{Access, Gva, Mask, Name, Page};
+use register_file::{BadValue, Bank};
+use vsm_base::{Access, Gva, Mask, Name, Page, Vtl};
 use vsm_core::{Denial, Grant, GuestFault, Op, Operand, Posted, What};
 
-/// How many registers are kept: the general ones and Rsp, in the order of their numbers.
-pub const REGISTERS: usize = 16;
-
-const FIRST_REGISTER: u32 = 0x0002_0000;
-
-fn place_of(name: Name) -> usize
-    ensures { result ≡ register_place name }
+/// The low 64 bits of a register.
+pub fn word_of(bank: &Bank, name: Name) -> u64
+    ensures { result ≡ word_of_lem (state_of bank.now) name }
 {
-    name.number().saturating_sub(FIRST_REGISTER) as usize
+    (bank.get(Vtl::Zero, name) % (1 << 64)) as u64
 }
 
-fn put(registers: &mut [u64; REGISTERS], name: Name, value: u64)
-    ensures { registers.new ≡ slice_set registers.old (register_place name) value }
+fn put_legal(bank: &mut Bank, name: Name, value: u128)
+    ensures { state_of bank.new ≡ put_legal_lem (state_of bank.old) name value }
 {
-    let place = place_of(name);
-    if place < REGISTERS {
-        registers[place] = value;
+    let _ = bank.put(Vtl::Zero, name, value);
+}
+
+fn go_on(bank: &mut Bank)
+    ensures { state_of bank.new ≡ gone_on (state_of bank.old) }
+{
+    let rip = word_of(bank, Name::Rip);
+    put_legal(bank, Name::Rip, u128::from(rip) + 1);
+}
+
+fn is_general(name: Name) -> bool
+    ensures { result ≡ is_general_lem name }
+{
+    match name {
+        Name::Rax
+        | Name::Rcx
+        | Name::Rdx
+        | Name::Rbx
+        | Name::Rbp
+        | Name::Rsi
+        | Name::Rdi
+        | Name::R8
+        | Name::R9
+        | Name::R10
+        | Name::R11
+        | Name::R12
+        | Name::R13
+        | Name::R14
+        | Name::R15 => true,
+        _ => false,
     }
 }
 
-fn operand(registers: &[u64; REGISTERS], what: Operand) -> u64
-    ensures { (rip : ℕ) → result ≡ operand_lem (record { rip = rip; registers = registers.now }) what }
+fn may_name(bank: &Bank, name: Name) -> bool
+    ensures { result ≡ may_name_lem (state_of bank.now) name }
+{
+    let privilege = (bank.get(Vtl::Zero, Name::Cs) >> 96) % 4;
+    privilege == 0 || matches!(name, Name::Rsp | Name::Rflags) || is_general(name)
+}
+
+fn set(bank: &mut Bank, name: Name, value: u128) -> What
+    ensures { (words masks : List ℕ) (pages : ℕ) → Stops (run_on masks 0 words (attempt pages (state_of bank.old) (Op.Set name value))) result (state_of bank.new) words }
+{
+    if !may_name(bank, name) {
+        return What::Fault(GuestFault::Gp);
+    }
+    match bank.put(Vtl::Zero, name, value) {
+        Ok(()) => {
+            go_on(bank);
+            What::Plain
+        }
+        Err(BadValue) => What::Fault(GuestFault::Gp),
+    }
+}
+
+fn get(bank: &mut Bank, name: Name) -> What
+    ensures { (words masks : List ℕ) (pages : ℕ) → Stops (run_on masks 0 words (attempt pages (state_of bank.old) (Op.Get name))) result (state_of bank.new) words }
+{
+    if !may_name(bank, name) {
+        return What::Fault(GuestFault::Gp);
+    }
+    let value = bank.get(Vtl::Zero, name);
+    go_on(bank);
+    What::Value(value)
+}
+
+fn operand(bank: &Bank, what: Operand) -> u64
+    ensures { result ≡ operand_lem (state_of bank.now) what }
 {
     match what {
         Operand::Number(value) => value,
-        Operand::Register(name) => {
-            let place = place_of(name);
-            if place < REGISTERS {
-                registers[place]
-            } else {
-                0
-            }
-        }
+        Operand::Register(name) => word_of(bank, name),
     }
 }
 
@@ -94,12 +144,20 @@ fn access(pages: u32, masks: &[Mask], words: &mut [u64], kind: Access, gva: Gva,
     })
 }
 
-fn keep(registers: &mut [u64; REGISTERS], name: Name, what: &What)
-    ensures { (rip : ℕ) → record { rip = moved what.now rip; registers = registers.new }
-        ≡ state_after what.now (record { rip = rip; registers = registers.old }) (λ x. gone_on (put_lem (record { rip = rip; registers = registers.old }) name x)) }
+fn keep(bank: &mut Bank, name: Name, what: &What)
+    ensures { state_of bank.new ≡ state_after what.now (state_of bank.old) (λ x. gone_on (put_legal_lem (state_of bank.old) name x)) }
 {
     if let What::Granted(grant) = what {
-        put(registers, name, grant.value);
+        put_legal(bank, name, u128::from(grant.value));
+        go_on(bank);
+    }
+}
+
+fn move_on(bank: &mut Bank, what: &What)
+    ensures { state_of bank.new ≡ state_after what.now (state_of bank.old) (λ _. gone_on (state_of bank.old)) }
+{
+    if let What::Granted(_) = what {
+        go_on(bank);
     }
 }
 
@@ -107,17 +165,16 @@ fn load(
     pages: u32,
     masks: &[Mask],
     words: &mut [u64],
-    registers: &mut [u64; REGISTERS],
+    bank: &mut Bank,
     name: Name,
     gva: Gva,
 ) -> What
     requires masks { length masks.now ≡ pages }
     requires words { length words.old ≡ 512 * pages }
-    ensures { (rip : ℕ) → Stops (run_on masks.now 0 words.old (attempt pages (record { rip = rip; registers = registers.old }) (Op.Load name gva)))
-        result (record { rip = moved result rip; registers = registers.new }) words.new }
+    ensures { Stops (run_on masks.now 0 words.old (attempt pages (state_of bank.old) (Op.Load name gva))) result (state_of bank.new) words.new }
 {
     let what = access(pages, masks, words, Access::Read, gva, 0);
-    keep(registers, name, &what);
+    keep(bank, name, &what);
     what
 }
 
@@ -125,34 +182,30 @@ fn store(
     pages: u32,
     masks: &[Mask],
     words: &mut [u64],
-    registers: &[u64; REGISTERS],
+    bank: &mut Bank,
     gva: Gva,
     value: Operand,
 ) -> What
     requires masks { length masks.now ≡ pages }
     requires words { length words.old ≡ 512 * pages }
-    ensures { (rip : ℕ) → Stops (run_on masks.now 0 words.old (attempt pages (record { rip = rip; registers = registers.now }) (Op.Store gva value)))
-        result (record { rip = moved result rip; registers = registers.now }) words.new }
+    ensures { Stops (run_on masks.now 0 words.old (attempt pages (state_of bank.old) (Op.Store gva value))) result (state_of bank.new) words.new }
 {
-    let value = operand(registers, value);
-    access(pages, masks, words, Access::Write, gva, value)
+    let value = operand(bank, value);
+    let what = access(pages, masks, words, Access::Write, gva, value);
+    move_on(bank, &what);
+    what
 }
 
-fn operate(
-    pages: u32,
-    masks: &[Mask],
-    words: &mut [u64],
-    registers: &mut [u64; REGISTERS],
-    op: Op,
-) -> What
+fn operate(pages: u32, masks: &[Mask], words: &mut [u64], bank: &mut Bank, op: Op) -> What
     requires masks { length masks.now ≡ pages }
     requires words { length words.old ≡ 512 * pages }
-    ensures { (rip : ℕ) → Stops (run_on masks.now 0 words.old (attempt pages (record { rip = rip; registers = registers.old }) op))
-        result (record { rip = moved result rip; registers = registers.new }) words.new }
+    ensures { Stops (run_on masks.now 0 words.old (attempt pages (state_of bank.old) op)) result (state_of bank.new) words.new }
 {
     match op {
-        Op::Load(name, gva) => load(pages, masks, words, registers, name, gva),
-        Op::Store(gva, value) => store(pages, masks, words, registers, gva, value),
+        Op::Set(name, value) => set(bank, name, value),
+        Op::Get(name) => get(bank, name),
+        Op::Load(name, gva) => load(pages, masks, words, bank, name, gva),
+        Op::Store(gva, value) => store(pages, masks, words, bank, gva, value),
         _ => What::Fault(GuestFault::Undefined),
     }
 }
@@ -162,16 +215,15 @@ pub fn perform(
     pages: u32,
     masks: &[Mask],
     words: &mut [u64],
-    registers: &mut [u64; REGISTERS],
+    bank: &mut Bank,
     op: Option<Op>,
 ) -> What
     requires masks { length masks.now ≡ pages }
     requires words { length words.old ≡ 512 * pages }
-    ensures { (rip : ℕ) → Stops (run_on masks.now 0 words.old (tree_of pages (record { rip = rip; registers = registers.old }) op))
-        result (record { rip = moved result rip; registers = registers.new }) words.new }
+    ensures { Stops (run_on masks.now 0 words.old (tree_of pages (state_of bank.old) op)) result (state_of bank.new) words.new }
 {
     match op {
-        Some(op) => operate(pages, masks, words, registers, op),
+        Some(op) => operate(pages, masks, words, bank, op),
         None => What::Fault(GuestFault::Undefined),
     }
 }

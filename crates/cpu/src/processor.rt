@@ -1,13 +1,12 @@
 // A processor and its marks.
-ghost use Rattle.std.specs.Prelude.{◌≡◌, ◌+◌, ◌*◌, ◌<◌, ◌≤◌, ◌^◌, true, None, Some, IfOk, List, length, slice_get};
-ghost use Rattle.vsm_core.specs.Fills.{Cached};
+ghost use Rattle.std.specs.Prelude.{◌≡◌, ◌+◌, ◌*◌, ◌<◌, ◌≤◌, ◌^◌, true, None, Some, IfOk, List, length, slice_get, if◌then◌else◌};
 ghost use Rattle.vsm_core.specs.Processor.{opening, attempted, marked, ran_out, or_else, stopped_by, AddsMark, IsSameProcessor};
-ghost use Rattle.cpu.specs.Stops.{moved};
 
-use crate::access::{REGISTERS, perform};
+use crate::access::{perform, word_of};
+use register_file::Bank;
 use std::alloc::Global;
 use std::marker::Model;
-use vsm_base::{Limits, Mask, Memory, Reserved, VpIndex, Vtl};
+use vsm_base::{Limits, Mask, Memory, Name, Reserved, VpIndex, Vtl};
 use vsm_core::{Ending, Mark, Op, Posted, Program, What};
 
 /// A virtual processor. Contracts see its registers, its marks and its ending.
@@ -18,8 +17,7 @@ pub struct Cpu {
     zero_length: usize,
     one_length: usize,
     started: bool,
-    rip: u64,
-    registers: [u64; REGISTERS],
+    bank: Bank,
     marks: Reserved<Mark>,
     ended: Option<Ending>,
 }
@@ -47,6 +45,16 @@ fn ran_out(length: usize, budget: u32, rip: u64, marks: usize) -> Option<Ending>
     }
 }
 
+fn opening_ending(started: bool, length: usize, budget: u32) -> Option<Ending>
+    ensures { result ≡ (if started then ran_out length budget 0 0 else None) }
+{
+    if started {
+        ran_out(length, budget, 0, 0)
+    } else {
+        None
+    }
+}
+
 fn stopped_by(what: &What) -> Option<Ending>
     ensures { result ≡ stopped_by what.now }
 {
@@ -62,16 +70,6 @@ fn operation(ops: &[Op], rip: u64) -> Option<Op>
     ensures { result ≡ slice_get ops.now rip }
 {
     ops.get(rip as usize).copied()
-}
-
-fn moved(what: &What, rip: u64) -> u64
-    requires { rip + 1 < 2 ^ 64 }
-    ensures { result ≡ moved what.now rip }
-{
-    match what {
-        What::Granted(_) => rip + 1,
-        _ => rip,
-    }
 }
 
 fn ending(length: usize, budget: u32, what: &What, rip: u64, marks: usize) -> Option<Ending>
@@ -98,46 +96,17 @@ impl Cpu {
     {
         let marks = Reserved::new(alloc, limits.budget as usize)?;
         let zero_length = program.zero.len();
-        let ended = if started {
-            ran_out(zero_length, limits.budget, 0, 0)
-        } else {
-            None
-        };
+        let ended = opening_ending(started, zero_length, limits.budget);
         Ok(Cpu {
             vp,
             limits: *limits,
             zero_length,
             one_length: program.one.len(),
             started,
-            rip: 0,
-            registers: [0; REGISTERS],
+            bank: Bank::opening(),
             marks,
             ended,
         })
-    }
-
-    /// Leaves the mark of an attempt that came to this, one operation on where it was granted.
-    fn settle(&mut self, what: What, registers: [u64; REGISTERS]) -> Option<Ending>
-        requires started { self.old.started ≡ true }
-        requires going { self.old.ended ≡ None }
-        ensures cpu { (does : List Cached) → self.new ≡ marked self.old (record { what = what; state = record { rip = moved what self.old.state.rip; registers = registers }; does = does }) }
-        ensures within { length self.new.marks ≤ self.old.limits.budget }
-        ensures ending { result ≡ self.new.ended }
-    {
-        let mark = Mark {
-            level: Vtl::Zero,
-            rip: self.rip,
-            what,
-            first: 0,
-            count: 0,
-        };
-        let rip = moved(&what, self.rip);
-        self.marks.push(mark);
-        self.rip = rip;
-        self.registers = registers;
-        let marks = self.marks.as_slice().len();
-        self.ended = ending(self.zero_length, self.limits.budget, &what, rip, marks);
-        self.ended
     }
 
     /// Makes the whole attempt of the operation at Rip over all pages' masks and all memory words, and leaves
@@ -162,10 +131,21 @@ impl Cpu {
         ensures within { length self.new.marks ≤ self.old.limits.budget }
         ensures same { IsSameProcessor self.old self.new }
     {
-        let op = operation(program.zero.as_slice(), self.rip);
-        let mut registers = self.registers;
-        let what = perform(self.limits.pages, masks, words, &mut registers, op);
-        self.settle(what, registers)
+        let rip = word_of(&self.bank, Name::Rip);
+        let op = operation(program.zero.as_slice(), rip);
+        let what = perform(self.limits.pages, masks, words, &mut self.bank, op);
+        let mark = Mark {
+            level: Vtl::Zero,
+            rip,
+            what,
+            first: 0,
+            count: 0,
+        };
+        self.marks.push(mark);
+        let now = word_of(&self.bank, Name::Rip);
+        let marks = self.marks.as_slice().len();
+        self.ended = ending(self.zero_length, self.limits.budget, &what, now, marks);
+        self.ended
     }
 
     /// Why the processor runs no more, if it doesn't.

@@ -7,7 +7,7 @@ use Rattle.vsm_core.specs.declared.mark.GuestFault.TheVariants.{Align, Unmapped}
 use Rattle.vsm_core.specs.declared.operation.Op.{Op}
 use Rattle.vsm_core.specs.declared.operation.Op.TheVariants.{Load, Store}
 use Rattle.vsm_core.specs.Tree.{Tree, Ends, Asks, Wants, Masking, then_, Within}
-use Rattle.vsm_core.specs.State.{State, put, gone_on, operand}
+use Rattle.vsm_core.specs.State.{State, put_legal, gone_on, operand}
 use Rattle.vsm_core.specs.Fills.{Fill, Translation, straight}
 use Rattle.vsm_core.specs.Access.{Goal, Denies, Faults, data_step, by_mask, at_page, access, page_of, fill_of}
 use Rattle.vsm_core.specs.Attempt.{attempt, by_access, leaves, faulted}
@@ -49,7 +49,7 @@ by_access-within state granted goal =
 
 pub attempt-within : (pages : ℕ) (state : State) (op : Op) → Within 13 (attempt pages state op)
 attempt-within pages state (Load name gva) =
-    by_access-within state (λ x. gone_on (put state name x)) (record { gva = gva.0; access = Read; value = 0; pages = pages })
+    by_access-within state (λ x. gone_on (put_legal state name x)) (record { gva = gva.0; access = Read; value = 0; pages = pages })
 attempt-within pages state (Store gva what) =
     by_access-within state (λ _. gone_on state) (record { gva = gva.0; access = Write; value = operand state what; pages = pages })
 attempt-within pages state _ = tt

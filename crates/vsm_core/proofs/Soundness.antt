@@ -10,7 +10,7 @@ use Rattle.vsm_core.specs.declared.mark.GuestFault.TheVariants.{Align, Unmapped}
 use Rattle.vsm_core.specs.declared.operation.Op.{Op}
 use Rattle.vsm_core.specs.declared.operation.Op.TheVariants.{Load, Store}
 use Rattle.vsm_core.specs.Tree.{Tree, Ends, Asks, Wants, Masking, then_}
-use Rattle.vsm_core.specs.State.{State, put, gone_on, operand}
+use Rattle.vsm_core.specs.State.{State, put_legal, gone_on, operand}
 use Rattle.vsm_core.specs.Fills.{Fill, Translation, straight}
 use Rattle.vsm_core.specs.Access.{Goal, Decision, Denies, Faults, data_step, by_mask, at_page, access, page_of, fill_of}
 use Rattle.vsm_core.specs.Attempt.{attempt, by_access, leaves, faulted}
@@ -57,7 +57,7 @@ by_access-sound es state granted goal idle =
 
 pub attempt-sound : (pages : ℕ) (state : State) (op : Op) (es : List Event) → phase_of es ≡ Idle → Sound pages IsOver es (attempt pages state op)
 attempt-sound pages state (Load name gva) es idle =
-    by_access-sound es state (λ x. gone_on (put state name x)) (record { gva = gva.0; access = Read; value = 0; pages = pages }) idle
+    by_access-sound es state (λ x. gone_on (put_legal state name x)) (record { gva = gva.0; access = Read; value = 0; pages = pages }) idle
 attempt-sound pages state (Store gva what) es idle =
     by_access-sound es state (λ _. gone_on state) (record { gva = gva.0; access = Write; value = operand state what; pages = pages }) idle
 attempt-sound pages state _ es idle = idle

@@ -12,7 +12,7 @@ use Rattle.vsm_core.specs.declared.mark.Ending.{Ending}
 use Rattle.vsm_core.specs.declared.mark.Ending.TheVariants as endings
 use Rattle.vsm_core.specs.declared.operation.Op.{Op}
 use Rattle.vsm_core.specs.declared.operation.Program.{Program}
-use Rattle.vsm_core.specs.State.{State, opening_state}
+use Rattle.vsm_core.specs.State.{State, rip_of, opening_state}
 use Rattle.vsm_core.specs.Tree.{Tree, Ends, Asks, Wants}
 use Rattle.vsm_core.specs.Attempt.{Outcome, attempt, faulted}
 use Rattle.vsm_core.specs.Whole.{Stop, run_on}
@@ -66,14 +66,14 @@ opening number limits started zero_length one_length = record {
 }
 
 abbrev pub mark_of : State → What → Mark
-mark_of state what = record { level = Zero; rip = state.rip; what = what; first = 0; count = 0 }
+mark_of state what = record { level = Zero; rip = rip_of state; what = what; first = 0; count = 0 }
 
 -- the processor after an attempt that came to this
 abbrev pub marked : Vp → Outcome → Vp
 marked v o = record v {
   state = o.state;
   marks = v.marks ++ mark_of v.state o.what ∷ [];
-  ended = ending_after v o.what o.state.rip (length v.marks + 1);
+  ended = ending_after v o.what (rip_of o.state) (length v.marks + 1);
 }
 
 abbrev pub tree_of : ℕ → State → Option Op → Tree Outcome
@@ -97,7 +97,7 @@ settled_at v stop = record { vp = settled v stop.at; words = stop.words }
 -- the whole attempt of the operation at Rip, over these masks, generation and words
 unfoldable pub attempted : Program → List ℕ → ℕ → Vp → List ℕ → Did
 attempted program masks generation v words =
-    settled_at v (run_on masks generation words (tree_of v.limits.pages v.state (slice_get program.zero v.state.rip)))
+    settled_at v (run_on masks generation words (tree_of v.limits.pages v.state (slice_get program.zero (rip_of v.state))))
 
 -- exactly one mark was added
 abbrev pub AddsMark : Vp → Vp → Type 0

@@ -1,35 +1,72 @@
--- A processor's registers, as far as the operations that are built reach.
-use Rattle.std.specs.Prelude.{ℕ, ◌+◌, ◌-◌, List, slice_index, slice_set, replicate}
+-- A processor's state, as far as the operations that are built reach: its registers, seen from level 0.
+use Rattle.std.specs.Prelude.{ℕ, ◌+◌, ◌/◌, ◌%◌, ◌^◌, ◌==◌, ◌||◌, Bool, true, false, if◌then◌else◌}
 use Rattle.vsm_base.specs.declared.name.Name.{Name}
-use Rattle.vsm_base.specs.Names.{number_of}
+use Rattle.vsm_base.specs.declared.name.Name.TheVariants as names
+use Rattle.vsm_base.specs.declared.places.Vtl.TheVariants.{Zero}
 use Rattle.vsm_core.specs.declared.operation.Operand.{Operand}
 use Rattle.vsm_core.specs.declared.operation.Operand.TheVariants.{Number, Register}
+use Rattle.vsm_core.specs.Registers.{Registers, is_legal, opening, get as get_in, put as put_in}
 
--- level 0's Rip, and the general registers with Rsp in the order of their numbers
 pub record State : Type 0 where
-  pub rip : ℕ
-  pub registers : List ℕ
-
-abbrev pub register_count : ℕ
-register_count = 16
-
--- the place of a register in that order
-abbrev pub register_place : Name → ℕ
-register_place name = number_of name - 0x0002_0000
+  pub registers : Registers
 
 abbrev pub get : State → Name → ℕ
-get state name = slice_index state.registers (register_place name)
+get state name = get_in state.registers Zero name
 
 abbrev pub put : State → Name → ℕ → State
-put state name value = record state { registers = slice_set state.registers (register_place name) value }
+put state name value = record { registers = put_in state.registers Zero name value }
+
+-- a register takes no value that has a must-be-zero bit
+abbrev pub put_legal : State → Name → ℕ → State
+put_legal state name value = if is_legal name value then put state name value else state
+
+-- the low 64 bits of a register
+abbrev pub word_of : State → Name → ℕ
+word_of state name = get state name % 2 ^ 64
+
+-- the operation where the program stands
+abbrev pub rip_of : State → ℕ
+rip_of state = word_of state names.Rip
 
 abbrev pub gone_on : State → State
-gone_on state = record state { rip = state.rip + 1 }
+gone_on state = put_legal state names.Rip (rip_of state + 1)
 
+-- the privilege level: the two low bits of the code segment's selector
+abbrev pub privilege_of : State → ℕ
+privilege_of state = get state names.Cs / 2 ^ 96 % 4
+
+-- the general registers
+abbrev pub is_general : Name → Bool
+is_general names.Rax = true
+is_general names.Rcx = true
+is_general names.Rdx = true
+is_general names.Rbx = true
+is_general names.Rbp = true
+is_general names.Rsi = true
+is_general names.Rdi = true
+is_general names.R8 = true
+is_general names.R9 = true
+is_general names.R10 = true
+is_general names.R11 = true
+is_general names.R12 = true
+is_general names.R13 = true
+is_general names.R14 = true
+is_general names.R15 = true
+is_general _ = false
+
+-- the registers that every privilege level may name
+abbrev pub is_free : Name → Bool
+is_free names.Rsp = true
+is_free names.Rflags = true
+is_free name = is_general name
+
+abbrev pub may_name : State → Name → Bool
+may_name state name = (privilege_of state == 0) || is_free name
+
+-- what a store writes: the number, or the low 64 bits of the register
 abbrev pub operand : State → Operand → ℕ
 operand state (Number value) = value
-operand state (Register name) = get state name
+operand state (Register name) = word_of state name
 
--- all registers are 0 at the opening
 unfoldable pub opening_state : State
-opening_state = record { rip = 0; registers = replicate register_count 0 }
+opening_state = record { registers = opening }

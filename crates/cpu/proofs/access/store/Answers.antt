@@ -1,8 +1,8 @@
-use Rattle.vsm_core.specs.State.{State, gone_on}
-use Rattle.cpu.proofs.Accesses.{store_state}
+use Rattle.vsm_core.specs.State.{gone_on}
+use Rattle.cpu.specs.Stops.{state_of}
 use Rattle.cpu.proofs.access.store.Goals as goal
 
 pub returns : goal.returns
-returns c = λ rip.
-    let state : State = record { rip = rip; registers = c.args.registers.now } in
-    rw (← (c.operand-value.ensures rip), ← (store_state c.access.result rip c.args.registers.now)) (c.access.ensures state (λ _. gone_on state))
+returns c =
+    let state = state_of c.args.bank.now in
+    rw (c.move_on.ensures, ← c.operand-value.ensures) (c.access-what.ensures state (λ _. gone_on state))
