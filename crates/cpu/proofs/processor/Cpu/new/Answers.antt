@@ -9,5 +9,5 @@ invariant_of-result c = record {
   going = λ started ended.
     let runs : ran_out c.len-zero_length.result c.args.limits.now.budget 0 0 ≡ None = sym (rw started at c.opening_ending-ended.ensures) ∙ ended in
     let b = ran_out-none c.len-zero_length.result c.args.limits.now.budget c.requires runs in
-    (rw c.in_ok-marks.ensures b.0, rw (c.opening.ensures, rip-opening) b.1);
+    (rw c.in_ok-marks.ensures b.0, rw (c.opening.ensures.opening, rip-opening) b.1);
 }
