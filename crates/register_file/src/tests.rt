@@ -75,32 +75,45 @@ const REGISTERS: [(Name, u128, u128); 56] = [
     (Name::CrInterceptCr4Mask, SIXTY_FOUR, 0),
 ];
 
-#[test]
-fn registers_keep_legal_values_alone(rt: HostRuntime) {
-    let mut bank = Bank::opening();
-    for (name, highest, opening) in REGISTERS {
-        for level in [Vtl::Zero, Vtl::One] {
-            let number = name.number();
-            assert_eq!(rt; bank.get(Vtl::One, name), opening, "at {number}");
-            assert_eq!(rt; bank.put(level, name, highest), Ok(()), "at {number}");
-            assert_eq!(rt; bank.get(level, name), highest, "at {number}");
-            for bit in 0..128u32 {
-                let bad = 1u128 << bit;
-                if bad & highest == 0 {
-                    assert_eq!(rt; bank.put(level, name, bad), Err(BadValue), "at {number}");
-                    assert_eq!(rt;
-                        bank.put(level, name, bad | highest),
-                        Err(BadValue),
-                        "at {number}"
-                    );
-                    assert_eq!(rt; bank.get(level, name), highest, "at {number}");
-                }
-            }
-            assert_eq!(rt; bank.put(level, name, 0), Ok(()), "at {number}");
-            assert_eq!(rt; bank.get(level, name), 0, "at {number}");
-            assert_eq!(rt; bank.put(level, name, opening), Ok(()), "at {number}");
+/// Whether the register can be given this value, and then has it.
+fn keeps(bank: &mut Bank, level: Vtl, name: Name, value: u128) -> bool {
+    bank.put(level, name, value) == Ok(()) && bank.get(level, name) == value
+}
+
+/// Whether a value with a bit set beside those of the highest is refused, and leaves the register as it was.
+fn refuses_other_bits(bank: &mut Bank, level: Vtl, name: Name, highest: u128) -> bool {
+    for bit in 0..128u32 {
+        let bad = 1u128 << bit;
+        if bad & highest == 0
+            && (bank.put(level, name, bad) != Err(BadValue)
+                || bank.put(level, name, bad | highest) != Err(BadValue)
+                || bank.get(level, name) != highest)
+        {
+            return false;
         }
     }
+    true
+}
+
+/// The first register that isn't at its opening value, or that doesn't keep its legal values alone.
+fn first_wrong(registers: &[(Name, u128, u128)], level: Vtl) -> Option<Name> {
+    let mut bank = Bank::opening();
+    for (name, highest, opening) in registers {
+        if bank.get(level, *name) != *opening
+            || !keeps(&mut bank, level, *name, *highest)
+            || !refuses_other_bits(&mut bank, level, *name, *highest)
+            || !keeps(&mut bank, level, *name, 0)
+        {
+            return Some(*name);
+        }
+    }
+    None
+}
+
+#[test]
+fn registers_keep_legal_values_alone(rt: HostRuntime) {
+    assert_eq!(rt; first_wrong(&REGISTERS, Vtl::Zero), None);
+    assert_eq!(rt; first_wrong(&REGISTERS, Vtl::One), None);
 }
 
 #[test]
