@@ -1,6 +1,6 @@
 -- A run under way as contracts see it.
 use Rattle.std.specs.Prelude.{◌≡◌, ◌*◌, true, length}
-use Rattle.vsm_main.specs.FlatRun.{World}
+use Rattle.vsm_report.specs.FlatRun.{World}
 use Rattle.vsm_main.specs.declared.walk.Walk.TheInside.{Inside}
 
 abbrev pub view_of : Inside → World

@@ -1,19 +1,19 @@
 // The run of a script whose schedule has whole attempts alone.
 ghost use Rattle.std.specs.Prelude.{◌≡◌, ◌*◌, [], ◌∷◌, IfOk, length, slice_set, unwrap_or};
 ghost use Rattle.guest_script.specs.Within.{IsWithin};
-ghost use Rattle.vsm_main.specs.Opening.{opening_words, opening_masks};
-ghost use Rattle.vsm_main.specs.FlatRun.{opened, acted, first_program, report_of, flat};
-ghost use Rattle.vsm_main.specs.Trace.{traced};
-ghost use Rattle.vsm_main.specs.Schedule.{after_turns, after_line, after_schedule};
+ghost use Rattle.vsm_report.specs.Opening.{opening_words, opening_masks};
+ghost use Rattle.vsm_report.specs.FlatRun.{opened, acted, first_program, report_of, flat};
+ghost use Rattle.vsm_report.specs.Trace.{traced};
+ghost use Rattle.vsm_report.specs.Schedule.{after_turns, after_line, after_schedule};
 ghost use Rattle.vsm_main.specs.Fits.{Fits};
 
-use crate::{MarkLine, Report};
 use cpu::Cpu;
 use guest_script::{Script, Turns};
 use std::alloc::Global;
 use std::marker::Model;
 use vsm_base::{Items, Mask, Memory, Reserved, VpIndex};
 use vsm_core::{Ending, Program};
+use vsm_report::{MarkLine, Report};
 
 /// A run under way.
 #[derive(Drop)]
@@ -25,7 +25,7 @@ struct Walk {
 }
 
 impl Model for Walk {
-    ghost use Rattle.vsm_main.specs.FlatRun.{World};
+    ghost use Rattle.vsm_report.specs.FlatRun.{World};
     ghost use Rattle.vsm_main.specs.Held.{view_of, IsReady};
 
     ghost Value = { World };
@@ -44,7 +44,7 @@ fn set_at<T: Copy>(items: &mut Vec<T>, place: usize, item: T)
 }
 
 /// The memory words with which a run begins.
-#[tactic(auto, unfolding(crate::specs::Opening::opening_words))]
+#[tactic(auto, unfolding(vsm_report::specs::Opening::opening_words))]
 fn opening_words(alloc: Global, script: &Script) -> Result<Vec<u64>, Memory>
     ensures words { IfOk result (λ words. words.items ≡ opening_words script.now) }
     ensures all { IfOk result (λ words. length words.items ≡ 512 * script.now.limits.pages) }
@@ -57,7 +57,7 @@ fn opening_words(alloc: Global, script: &Script) -> Result<Vec<u64>, Memory>
 }
 
 /// The masks with which a run begins.
-#[tactic(auto, unfolding(crate::specs::Opening::opening_masks))]
+#[tactic(auto, unfolding(vsm_report::specs::Opening::opening_masks))]
 fn opening_masks(alloc: Global, script: &Script) -> Result<Vec<Mask>, Memory>
     ensures masks { IfOk result (λ masks. masks.items ≡ opening_masks script.now) }
     ensures all { IfOk result (λ masks. length masks.items ≡ script.now.limits.pages) }
@@ -71,7 +71,7 @@ fn opening_masks(alloc: Global, script: &Script) -> Result<Vec<Mask>, Memory>
 
 impl Walk {
     /// A run before its first turn. All its memory is taken here.
-    #[tactic(auto, unfolding(crate::specs::FlatRun::opened))]
+    #[tactic(auto, unfolding(vsm_report::specs::FlatRun::opened))]
     fn open(alloc: Global, script: &Script, program: &Program) -> Result<Walk, Memory>
         requires within { IsWithin script.now }
         requires program { first_program script.now ≡ program.now }
@@ -97,7 +97,7 @@ impl Walk {
     }
 
     /// The processor makes a whole attempt, if it hasn't ended.
-    #[tactic(auto, unfolding(crate::specs::FlatRun::acted))]
+    #[tactic(auto, unfolding(vsm_report::specs::FlatRun::acted))]
     fn act(&mut self, program: &Program)
         requires { Fits program.now self.old.vp }
         ensures acts { self.new ≡ acted program.now self.old }
@@ -125,7 +125,7 @@ impl Walk {
         }
     }
 
-    #[tactic(auto, unfolding(crate::specs::Schedule::after_line))]
+    #[tactic(auto, unfolding(vsm_report::specs::Schedule::after_line))]
     fn line(&mut self, program: &Program, entries: &[Turns])
         requires { Fits program.now self.old.vp }
         ensures acts { self.new ≡ after_line (acted program.now) self.old entries.now }
@@ -136,7 +136,7 @@ impl Walk {
         }
     }
 
-    #[tactic(auto, unfolding(crate::specs::Schedule::after_schedule))]
+    #[tactic(auto, unfolding(vsm_report::specs::Schedule::after_schedule))]
     fn schedule(&mut self, program: &Program, lines: &[Items<Turns>])
         requires { Fits program.now self.old.vp }
         ensures acts { self.new ≡ after_schedule (acted program.now) self.old lines.now }
@@ -164,7 +164,7 @@ impl Walk {
     }
 }
 
-#[tactic(auto, unfolding(crate::specs::FlatRun::flat))]
+#[tactic(auto, unfolding(vsm_report::specs::FlatRun::flat))]
 fn walked(alloc: Global, script: &Script) -> Result<Report, Memory>
     requires { IsWithin script.now }
     ensures { IfOk result (λ report. report ≡ flat script.now) }

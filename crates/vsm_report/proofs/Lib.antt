@@ -1,0 +1,4 @@
+pub mod DigitSteps
+pub mod PageWords
+pub mod Spelling
+pub mod Stepping
