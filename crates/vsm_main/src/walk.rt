@@ -1,5 +1,5 @@
 // The run of a script whose schedule has whole attempts alone.
-ghost use Rattle.std.specs.Prelude.{◌≡◌, ◌*◌, [], ◌∷◌, IfOk, length, slice_set, unwrap_or};
+ghost use Rattle.std.specs.Prelude.{◌≡◌, ◌≤◌, ◌*◌, [], ◌∷◌, IfOk, length, slice_set, vec_capacity};
 ghost use Rattle.guest_script.specs.Within.{IsWithin};
 ghost use Rattle.vsm_report.specs.Opening.{opening_words, opening_masks};
 ghost use Rattle.vsm_report.specs.FlatRun.{opened, acted, first_program, report_of, flat};
@@ -12,8 +12,8 @@ use guest_script::{Script, Turns};
 use std::alloc::Global;
 use std::marker::Model;
 use vsm_base::{Items, Mask, Memory, Reserved, VpIndex};
-use vsm_core::{Ending, Program};
-use vsm_report::{MarkLine, Report};
+use vsm_core::{Ending, Mark, Program};
+use vsm_report::{Line, Report, Track, add_mark};
 
 /// A run under way.
 #[derive(Drop)]
@@ -21,7 +21,9 @@ struct Walk {
     masks: Vec<Mask>,
     words: Vec<u64>,
     cpu: Cpu,
-    lines: Reserved<MarkLine>,
+    lines: Reserved<Line>,
+    // The processor's marks, as the report is to have them.
+    marks: Reserved<Mark>,
 }
 
 impl Model for Walk {
@@ -41,6 +43,16 @@ fn set_at<T: Copy>(items: &mut Vec<T>, place: usize, item: T)
     if place < items.len() {
         items[place] = item;
     }
+}
+
+// One item, in room that was taken before.
+fn only<T: Drop>(mut items: Vec<T>, item: T) -> Items<T>
+    requires empty { items.items ≡ [] }
+    requires room { 1 ≤ vec_capacity items }
+    ensures { result ≡ item ∷ [] }
+{
+    let _ = items.push(item);
+    Items::from_vec(items)
 }
 
 /// The memory words with which a run begins.
@@ -81,6 +93,7 @@ impl Walk {
         let masks = opening_masks(alloc, script)?;
         let words = opening_words(alloc, script)?;
         let lines = Reserved::new(alloc, script.limits.budget as usize)?;
+        let marks = Reserved::new(alloc, script.limits.budget as usize)?;
         let cpu = Cpu::new(
             alloc,
             VpIndex(0),
@@ -93,6 +106,7 @@ impl Walk {
             words,
             cpu,
             lines,
+            marks,
         })
     }
 
@@ -108,11 +122,9 @@ impl Walk {
         }
         let before = self.cpu.marks().len();
         let _ = self.cpu.attempt(&self.masks, &mut self.words, program);
-        let mark = self.cpu.marks()[before];
-        self.lines.push(MarkLine {
-            vp: VpIndex(0),
-            mark,
-        });
+        let mark = &self.cpu.marks()[before];
+        add_mark(&mut self.lines, VpIndex(0), mark, &[], &[]);
+        self.marks.push(*mark);
     }
 
     fn turns(&mut self, program: &Program, count: u32)
@@ -146,19 +158,32 @@ impl Walk {
         }
     }
 
-    fn into_report(self, ends: Items<Ending>) -> Report
-        requires { ends ≡ unwrap_or self.vp.ended Ending.Cut ∷ [] }
+    fn into_report(self, alloc: Global, ends: Vec<Ending>, tracks: Vec<Track>) -> Report
+        requires ends { ends.items ≡ [] }
+        requires room { 1 ≤ vec_capacity ends }
+        requires tracks { tracks.items ≡ [] }
+        requires room_of_tracks { 1 ≤ vec_capacity tracks }
         ensures { result ≡ report_of self }
     {
         let Walk {
-            masks: _,
+            masks,
             words,
-            cpu: _,
+            cpu,
             lines,
+            marks,
         } = self;
+        let ending = cpu.ended().unwrap_or(Ending::Cut);
+        let track = Track {
+            marks: marks.into_items(),
+            seen: Items::new(alloc),
+        };
         Report {
+            threads: false,
             lines: lines.into_items(),
-            ends,
+            journal: Items::new(alloc),
+            tracks: only(tracks, track),
+            ends: only(ends, ending),
+            masks: Items::from_vec(masks),
             words: Items::from_vec(words),
         }
     }
@@ -170,11 +195,11 @@ fn walked(alloc: Global, script: &Script) -> Result<Report, Memory>
     ensures { IfOk result (λ report. report ≡ flat script.now) }
 {
     let program = &script.programs.as_slice()[0];
-    let mut ends = Vec::with_capacity(alloc, 1)?;
+    let ends = Vec::with_capacity(alloc, 1)?;
+    let tracks = Vec::with_capacity(alloc, 1)?;
     let mut walk = Walk::open(alloc, script, program)?;
     walk.schedule(program, script.schedule.as_slice());
-    let _ = ends.push(walk.cpu.ended().unwrap_or(Ending::Cut));
-    Ok(walk.into_report(Items::from_vec(ends)))
+    Ok(walk.into_report(alloc, ends, tracks))
 }
 
 /// The report of a script's run, which is the same whether each attempt is made at once or step by step on the

@@ -20,7 +20,7 @@ use Rattle.guest_script.specs.declared.script.Script.{Script}
 use Rattle.vsm_report.specs.Schedule.{after_turns, after_entry, after_line, after_schedule}
 use Rattle.guest_script.specs.Within.{IsWithin}
 use Rattle.vsm_report.specs.Opening.{opening_masks, opening_words, with_mask}
-use Rattle.vsm_report.specs.FlatRun.{World, acted, with_attempt, new_lines, first_program, opened, report_of, flat}
+use Rattle.vsm_report.specs.FlatRun.{World, acted, with_attempt, new_lines, first_program, opened, track_of, ending_of, report_of, flat}
 use Rattle.vsm_report.specs.Trace.{Stepped, stepped, with_stop, opening_shared, stepped_opening, stepped_report, traced}
 
 -- what a schedule keeps of two worlds that act alike
@@ -120,7 +120,8 @@ opened_alike s some = record {
 }
 
 same_report : (s : Script) (v : Stepped) (w : World) → Alike s.limits v w → stepped_report s v ≡ report_of w
-same_report s v w r = let l = r.lines in let e = ap (λ (u : Vp). unwrap_or u.ended endings.Cut) r.vp in let h = r.holds.of_memory in rw (l, e, h) refl
+same_report s v w r =
+    let l = r.lines in let t = ap track_of r.vp in let e = ap ending_of r.vp in let m = r.holds.of_masks in let h = r.holds.of_memory in rw (l, t, e, m, h) refl
 
 -- the report of walking a schedule step by step is that of the flat run
 pub traced-flat : (s : Script) → IsWithin s → traced s ≡ flat s

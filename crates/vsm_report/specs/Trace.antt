@@ -1,23 +1,22 @@
 -- The run of a script step by step on all shared words: a turn is every step of its processor up to its mark.
-use Rattle.std.specs.Prelude.{ℕ, ◌+◌, ◌*◌, List, [], ◌∷◌, ◌++◌, length, drop, if◌then◌else◌, nat_lt, is_some, replicate, slice_get, unwrap_or}
-use Rattle.vsm_core.specs.declared.mark.Ending.TheVariants as endings
+use Rattle.std.specs.Prelude.{ℕ, ◌+◌, ◌*◌, List, [], ◌∷◌, ◌++◌, length, take, drop, if◌then◌else◌, nat_lt, is_some, replicate, slice_get}
 use Rattle.vsm_core.specs.declared.operation.Program.{Program}
 use Rattle.vsm_core.specs.Attempt.{Outcome}
 use Rattle.vsm_core.specs.Processor.{Vp, opening, tree_of, settled}
 use Rattle.vsm_core.specs.Whole.{Stop}
 use Rattle.vsm_core.specs.Words.{memory_at, steps_on}
 use Rattle.guest_script.specs.declared.script.Script.{Script}
-use Rattle.vsm_report.specs.declared.report.MarkLine.{MarkLine}
+use Rattle.vsm_report.specs.declared.report.Line.{Line}
 use Rattle.vsm_report.specs.declared.report.Report.{Report}
 use Rattle.vsm_report.specs.Opening.{opening_masks, opening_words}
 use Rattle.vsm_report.specs.Schedule.{after_schedule}
-use Rattle.vsm_report.specs.FlatRun.{first_program, new_lines}
+use Rattle.vsm_report.specs.FlatRun.{first_program, new_lines, report_with}
 
 -- all shared words, the processor and the lines so far
 pub record Stepped : Type 0 where
   pub words : List ℕ
   pub vp : Vp
-  pub lines : List MarkLine
+  pub lines : List Line
 
 -- the shared words with which a run begins: those that are neither masks nor memory are 0
 unfoldable pub opening_shared : Script → List ℕ
@@ -39,7 +38,7 @@ stepped program w =
     if is_some w.vp.ended then w else with_stop w (steps_on w.vp.limits w.vp.number w.words (tree_of w.vp.limits.pages w.vp.state (slice_get program.zero w.vp.state.rip)))
 
 abbrev pub stepped_report : Script → Stepped → Report
-stepped_report s w = record { lines = w.lines; ends = unwrap_or w.vp.ended endings.Cut ∷ []; words = drop (memory_at s.limits) w.words }
+stepped_report s w = report_with w.vp w.lines (take s.limits.pages w.words) (drop (memory_at s.limits) w.words)
 
 -- the report of walking the schedule
 unfoldable pub traced : Script → Report

@@ -2,12 +2,15 @@
 #![tactic(auto)]
 
 mod digits;
+mod journal;
+mod marks;
 mod opening;
 mod pieces;
 mod report;
+mod words;
 mod writer;
 
-pub use report::{MarkLine, Report};
+pub use report::{Line, Report, StepWord, Track, add_mark};
 pub use writer::write;
 
 #[cfg(test)]

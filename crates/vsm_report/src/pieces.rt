@@ -14,8 +14,12 @@ pub enum Piece<'a> {
     Text(&'a [u8]),
     /// A number in decimal digits.
     Decimal(u64),
+    /// A number in 4 hexadecimal digits.
+    Hex4(u16),
     /// A number in 16 hexadecimal digits.
     Hex(u64),
+    /// A number in 32 hexadecimal digits.
+    Hex32(u128),
 }
 
 fn put<K: Sink>(sink: &mut K, buffer: &mut TextBuffer, piece: &Piece<'_>) -> Result<(), WriteFailed>
@@ -28,8 +32,18 @@ fn put<K: Sink>(sink: &mut K, buffer: &mut TextBuffer, piece: &Piece<'_>) -> Res
             let at = digits::decimal(*n, &mut room);
             buffer.put(sink, &room[at..])
         }
+        Piece::Hex4(n) => {
+            let mut digits = [0u8; 4];
+            digits::hex(*n as u128, &mut digits);
+            buffer.put(sink, &digits)
+        }
         Piece::Hex(n) => {
             let mut digits = [0u8; 16];
+            digits::hex(*n as u128, &mut digits);
+            buffer.put(sink, &digits)
+        }
+        Piece::Hex32(n) => {
+            let mut digits = [0u8; 32];
             digits::hex(*n, &mut digits);
             buffer.put(sink, &digits)
         }

@@ -1,207 +1,46 @@
 // The text of a report into a sink.
 ghost use Rattle.std.specs.Prelude.{◌≡◌, length, slice_get};
 ghost use Rattle.std.specs.List.{flat_map, range_with_len};
-ghost use Rattle.vsm_base.specs.Levels.{level_number};
 ghost use Rattle.vsm_base.specs.Whole.{Gathers, Puts};
-ghost use Rattle.vsm_report.specs.Opening.{opening_words};
-ghost use Rattle.vsm_report.specs.Pieces.{spelled};
-ghost use Rattle.vsm_report.specs.Text.{op_word, access_word, posted_word, fault_word, mask_word, operation_at, place_text, what_text, mark_text, end_text_at, ended_text, ending_text, changed_text, word_text, head_text, marks_text, ends_text, words_text, close_text, text};
+ghost use Rattle.vsm_report.specs.Opening.{opening_masks, opening_words};
+ghost use Rattle.vsm_report.specs.Text.{line_text, end_text_at, ended_text, ending_text, changed_mask_text, mask_text, changed_text, word_text, head_text, lines_text, ends_text, masks_text, words_text, close_text, text};
 
-use crate::opening::go_on_to;
+use crate::journal::put_entry;
+use crate::marks::put_mark;
+use crate::opening::{go_on_to, opening_mask};
 use crate::pieces::{Piece, put_pieces};
-use crate::report::{MarkLine, Report};
+use crate::report::{Line, Report};
+use crate::words::fault_word;
 use guest_script::Script;
-use vsm_base::{Access, Mask, Sink, TextBuffer, Vtl, WriteFailed};
-use vsm_core::{Ending, GuestFault, Op, Posted, What};
+use vsm_base::{Mask, Sink, TextBuffer, WriteFailed};
+use vsm_core::Ending;
 
-fn op_word(op: &Op) -> &'static [u8]
-    ensures { result.now ≡ op_word op.now }
-{
-    match op {
-        Op::Set(_, _) => b"set",
-        Op::Get(_) => b"get",
-        Op::Load(_, _) => b"load",
-        Op::Store(_, _) => b"store",
-        Op::Exec(_) => b"exec",
-        Op::Spin(_, _) => b"spin",
-        Op::Jump(_) => b"jump",
-        Op::JumpNe(_, _, _) => b"jumpne",
-        Op::Invlpg(_) => b"invlpg",
-        Op::Hypercall => b"hypercall",
-        Op::VtlCall => b"vtlcall",
-        Op::VtlReturn => b"vtlreturn",
-        Op::Poll => b"poll",
-        Op::Ack(_) => b"ack",
-        Op::Eoi => b"eoi",
-        Op::Eom => b"eom",
-    }
-}
-
-fn access_word(access: Access) -> &'static [u8]
-    ensures { result.now ≡ access_word access }
-{
-    match access {
-        Access::Read => b"read",
-        Access::Write => b"write",
-        Access::Execute => b"execute",
-    }
-}
-
-fn posted_word(posted: Posted) -> &'static [u8]
-    ensures { result.now ≡ posted_word posted }
-{
-    match posted {
-        Posted::Slot => b"slot",
-        Posted::Waiting => b"waiting",
-        Posted::Held => b"held",
-    }
-}
-
-fn fault_word(kind: GuestFault) -> &'static [u8]
-    ensures { result.now ≡ fault_word kind }
-{
-    match kind {
-        GuestFault::Align => b"align",
-        GuestFault::Noncanonical => b"noncanonical",
-        GuestFault::Unmapped => b"unmapped",
-        GuestFault::Page => b"page",
-        GuestFault::Undefined => b"undefined",
-        GuestFault::Gp => b"gp",
-    }
-}
-
-fn mask_piece(mask: Option<Mask>) -> Piece<'static>
-    ensures { spelled result ≡ mask_word mask }
-{
-    match mask {
-        None => Piece::Text(b"-"),
-        Some(mask) => Piece::Decimal(mask.bits() as u64),
-    }
-}
-
-fn level_number(level: Vtl) -> u64
-    ensures { result ≡ level_number level }
-{
-    match level {
-        Vtl::Zero => 0,
-        Vtl::One => 1,
-    }
-}
-
-#[tactic(auto, unfolding(crate::specs::Text::operation_at))]
-fn operation_at(script: &Script, line: &MarkLine) -> Option<Op>
-    ensures { result ≡ operation_at script.now line.now }
-{
-    let programs = script.programs.as_slice();
-    let program = programs.get(line.vp.0 as usize)?;
-    let operations = match line.mark.level {
-        Vtl::Zero => program.zero.as_slice(),
-        Vtl::One => program.one.as_slice(),
-    };
-    operations.get(line.mark.rip as usize).copied()
-}
-
-#[tactic(auto, unfolding(crate::specs::Text::place_text))]
-fn put_place<K: Sink>(
-    sink: &mut K,
-    buffer: &mut TextBuffer,
-    line: &MarkLine,
-    op: &Op,
-) -> Result<(), WriteFailed>
-    ensures { Gathers (K.taken sink.old) buffer.old (K.taken sink.new) buffer.new (K.faults sink.old) (K.faults sink.new) result (place_text line.now op.now) }
-{
-    let level = level_number(line.mark.level);
-    let word = op_word(op);
-    put_pieces(
-        sink,
-        buffer,
-        &[
-            Piece::Decimal(line.vp.0 as u64),
-            Piece::Text(b"."),
-            Piece::Decimal(level),
-            Piece::Text(b" "),
-            Piece::Decimal(line.mark.rip),
-            Piece::Text(b" "),
-            Piece::Text(word),
-        ],
-    )
-}
-
-// The outcomes that tell nothing here come with operations that no script of this language has yet.
-fn put_what<K: Sink>(sink: &mut K, buffer: &mut TextBuffer, what: &What) -> Result<(), WriteFailed>
-    ensures { Gathers (K.taken sink.old) buffer.old (K.taken sink.new) buffer.new (K.faults sink.old) (K.faults sink.new) result (what_text what.now) }
-{
-    match what {
-        What::Granted(grant) => put_pieces(
-            sink,
-            buffer,
-            &[
-                Piece::Text(b" ok page "),
-                Piece::Decimal(grant.page.0 as u64),
-                Piece::Text(b" mask "),
-                mask_piece(grant.mask),
-                Piece::Text(b" gen "),
-                Piece::Decimal(grant.generation),
-                Piece::Text(b" value 0x"),
-                Piece::Hex(grant.value),
-                Piece::Text(b"\n"),
-            ],
-        ),
-        What::Denied(denial) => put_pieces(
-            sink,
-            buffer,
-            &[
-                Piece::Text(b" denied page "),
-                Piece::Decimal(denial.page.0 as u64),
-                Piece::Text(b" mask "),
-                Piece::Decimal(denial.mask.bits() as u64),
-                Piece::Text(b" gen "),
-                Piece::Decimal(denial.generation),
-                Piece::Text(b" access "),
-                Piece::Text(access_word(denial.access)),
-                Piece::Text(b" "),
-                Piece::Text(posted_word(denial.posted)),
-                Piece::Text(b"\n"),
-            ],
-        ),
-        What::Fault(kind) => put_pieces(
-            sink,
-            buffer,
-            &[
-                Piece::Text(b" fault "),
-                Piece::Text(fault_word(*kind)),
-                Piece::Text(b"\n"),
-            ],
-        ),
-        _ => put_pieces(sink, buffer, &[Piece::Text(b"\n")]),
-    }
-}
-
-fn put_mark<K: Sink>(
+// A step has no text yet.
+fn put_line<K: Sink>(
     sink: &mut K,
     buffer: &mut TextBuffer,
     script: &Script,
-    line: &MarkLine,
+    line: &Line,
 ) -> Result<(), WriteFailed>
-    ensures { Gathers (K.taken sink.old) buffer.old (K.taken sink.new) buffer.new (K.faults sink.old) (K.faults sink.new) result (mark_text script.now line.now) }
+    ensures { Gathers (K.taken sink.old) buffer.old (K.taken sink.new) buffer.new (K.faults sink.old) (K.faults sink.new) result (line_text script.now line.now) }
 {
-    let Some(op) = operation_at(script, line) else {
-        return Ok(());
-    };
-    put_place(sink, buffer, line, &op)?;
-    put_what(sink, buffer, &line.mark.what)
+    match line {
+        Line::Step(_, _) => Ok(()),
+        Line::Entry(entry) => put_entry(sink, buffer, entry),
+        Line::Mark(vp, mark) => put_mark(sink, buffer, script, *vp, mark),
+    }
 }
 
-fn put_marks<K: Sink>(
+fn put_lines<K: Sink>(
     sink: &mut K,
     buffer: &mut TextBuffer,
     script: &Script,
-    lines: &[MarkLine],
+    lines: &[Line],
 ) -> Result<(), WriteFailed>
-    ensures { Gathers (K.taken sink.old) buffer.old (K.taken sink.new) buffer.new (K.faults sink.old) (K.faults sink.new) result (flat_map (mark_text script.now) lines.now) }
+    ensures { Gathers (K.taken sink.old) buffer.old (K.taken sink.new) buffer.new (K.faults sink.old) (K.faults sink.new) result (flat_map (line_text script.now) lines.now) }
 {
     for line in lines {
-        put_mark(sink, buffer, script, line)?;
+        put_line(sink, buffer, script, line)?;
     }
     Ok(())
 }
@@ -281,6 +120,47 @@ fn put_ends<K: Sink>(
     Ok(())
 }
 
+fn put_mask<K: Sink>(
+    sink: &mut K,
+    buffer: &mut TextBuffer,
+    page: usize,
+    opening: u32,
+    mask: u32,
+) -> Result<(), WriteFailed>
+    ensures { Gathers (K.taken sink.old) buffer.old (K.taken sink.new) buffer.new (K.faults sink.old) (K.faults sink.new) result (changed_mask_text page opening mask) }
+{
+    if opening == mask {
+        return Ok(());
+    }
+    put_pieces(
+        sink,
+        buffer,
+        &[
+            Piece::Text(b"mask "),
+            Piece::Decimal(page as u64),
+            Piece::Text(b" "),
+            Piece::Decimal(mask as u64),
+            Piece::Text(b"\n"),
+        ],
+    )
+}
+
+fn put_masks<K: Sink>(
+    sink: &mut K,
+    buffer: &mut TextBuffer,
+    script: &Script,
+    masks: &[Mask],
+) -> Result<(), WriteFailed>
+    ensures { Gathers (K.taken sink.old) buffer.old (K.taken sink.new) buffer.new (K.faults sink.old) (K.faults sink.new) result (flat_map (mask_text (opening_masks script.now) masks.now) (range_with_len 0 (length masks.now))) }
+{
+    for page in 0..masks.len() {
+        let opening = opening_mask(script, page);
+        let mask = masks[page].bits();
+        put_mask(sink, buffer, page, opening, mask)?;
+    }
+    Ok(())
+}
+
 fn put_word<K: Sink>(
     sink: &mut K,
     buffer: &mut TextBuffer,
@@ -331,16 +211,16 @@ fn put_head<K: Sink>(sink: &mut K, buffer: &mut TextBuffer) -> Result<(), WriteF
     buffer.put(sink, b"vsm-report 1 trace\n")
 }
 
-#[tactic(auto, unfolding(crate::specs::Text::marks_text))]
-fn put_all_marks<K: Sink>(
+#[tactic(auto, unfolding(crate::specs::Text::lines_text))]
+fn put_all_lines<K: Sink>(
     sink: &mut K,
     buffer: &mut TextBuffer,
     script: &Script,
     report: &Report,
 ) -> Result<(), WriteFailed>
-    ensures { Gathers (K.taken sink.old) buffer.old (K.taken sink.new) buffer.new (K.faults sink.old) (K.faults sink.new) result (marks_text script.now report.now) }
+    ensures { Gathers (K.taken sink.old) buffer.old (K.taken sink.new) buffer.new (K.faults sink.old) (K.faults sink.new) result (lines_text script.now report.now) }
 {
-    put_marks(sink, buffer, script, report.lines.as_slice())
+    put_lines(sink, buffer, script, report.lines.as_slice())
 }
 
 #[tactic(auto, unfolding(crate::specs::Text::ends_text))]
@@ -352,6 +232,18 @@ fn put_all_ends<K: Sink>(
     ensures { Gathers (K.taken sink.old) buffer.old (K.taken sink.new) buffer.new (K.faults sink.old) (K.faults sink.new) result (ends_text report.now) }
 {
     put_ends(sink, buffer, report.ends.as_slice())
+}
+
+#[tactic(auto, unfolding(crate::specs::Text::masks_text))]
+fn put_all_masks<K: Sink>(
+    sink: &mut K,
+    buffer: &mut TextBuffer,
+    script: &Script,
+    report: &Report,
+) -> Result<(), WriteFailed>
+    ensures { Gathers (K.taken sink.old) buffer.old (K.taken sink.new) buffer.new (K.faults sink.old) (K.faults sink.new) result (masks_text script.now report.now) }
+{
+    put_masks(sink, buffer, script, report.masks.as_slice())
 }
 
 #[tactic(auto, unfolding(crate::specs::Text::words_text))]
@@ -382,8 +274,9 @@ fn put_report<K: Sink>(
     ensures { Gathers (K.taken sink.old) buffer.old (K.taken sink.new) buffer.new (K.faults sink.old) (K.faults sink.new) result (text script.now report.now) }
 {
     put_head(sink, buffer)?;
-    put_all_marks(sink, buffer, script, report)?;
+    put_all_lines(sink, buffer, script, report)?;
     put_all_ends(sink, buffer, report)?;
+    put_all_masks(sink, buffer, script, report)?;
     put_all_words(sink, buffer, script, report)?;
     put_close(sink, buffer)
 }

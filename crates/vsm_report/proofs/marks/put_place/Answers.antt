@@ -1,5 +1,5 @@
-use Rattle.vsm_report.specs.Text.{place_text}
-use Rattle.vsm_report.proofs.writer.put_place.Goals as goal
+use Rattle.vsm_report.specs.Marks.{place_text}
+use Rattle.vsm_report.proofs.marks.put_place.Goals as goal
 
 pub returns : goal.returns
 unfolding place_text
