@@ -1,6 +1,2 @@
-pub mod DigitSteps
-pub mod PageWords
-pub mod Spelling
 pub mod Statuses
-pub mod Stepping
 pub mod Turning

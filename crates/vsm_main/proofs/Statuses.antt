@@ -7,8 +7,8 @@ use Rattle.vsm_base.specs.Outside.{IsAtEnd, Rose}
 use Rattle.vsm_base.specs.Whole.{limit}
 use Rattle.guest_script.specs.Grammar.{script}
 use Rattle.guest_script.specs.declared.script.Script.{Script}
-use Rattle.vsm_main.specs.FlatRun.{flat}
-use Rattle.vsm_main.specs.Text.{text}
+use Rattle.vsm_report.specs.FlatRun.{flat}
+use Rattle.vsm_report.specs.Text.{text}
 use Rattle.vsm_main.specs.declared.serve.Status.{Status}
 use Rattle.vsm_main.specs.declared.serve.Status.TheVariants as statuses
 use Rattle.vsm_main.specs.Serve.{Ends, Says, Decides, Traces, Completes, is_trace, status_of}

@@ -1,6 +1,6 @@
 -- Turns one by one.
 use Rattle.std.proofs.Common.{◌≡◌, ℕ, ◌+◌, refl, ap, add-one}
-use Rattle.vsm_main.specs.Schedule.{after_turns}
+use Rattle.vsm_report.specs.Schedule.{after_turns}
 
 module _ {W : Type 0} (act : W → W) where
   pub after_turns-add-one : (k : ℕ) (w : W) → after_turns act (k + 1) w ≡ after_turns act k (act w)

@@ -1,9 +1,3 @@
 pub mod Fits
-pub mod FlatRun
 pub mod Held
-pub mod Opening
-pub mod Pieces
-pub mod Schedule
 pub mod Serve
-pub mod Text
-pub mod Trace

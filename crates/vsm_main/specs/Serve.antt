@@ -8,8 +8,8 @@ use Rattle.vsm_base.specs.declared.whole.WriteFailed.{WriteFailed}
 use Rattle.guest_script.specs.Grammar.{script}
 use Rattle.guest_script.specs.declared.script.Script.{Script}
 use Rattle.guest_script.specs.declared.script.Refusal.{Refusal}
-use Rattle.vsm_main.specs.FlatRun.{flat}
-use Rattle.vsm_main.specs.Text.{text}
+use Rattle.vsm_report.specs.FlatRun.{flat}
+use Rattle.vsm_report.specs.Text.{text}
 use Rattle.vsm_main.specs.declared.serve.Status.{Status}
 use Rattle.vsm_main.specs.declared.serve.Status.TheVariants as statuses
 

@@ -1,28 +1,19 @@
 //! The program: a script in, a report out.
 #![tactic(auto)]
 
-mod digits;
-mod opening;
-mod pieces;
-mod report;
 mod serve;
 mod walk;
-mod writer;
 
-pub use report::{MarkLine, Report};
 pub use serve::{Status, serve_plain, vsm};
 use std::process::ExitCode;
 use std::{env, io};
 use vsm_base::{StdSink, StdSource};
 pub use walk::trace;
-pub use writer::write;
 
 #[cfg(test)]
 mod cases;
 #[cfg(test)]
 mod tests;
-#[cfg(test)]
-mod writer_tests;
 
 fn main(rt: HostRuntime) -> io::Result<ExitCode> {
     let mut words = Vec::new(rt.alloc());

@@ -1,5 +1,5 @@
 use Rattle.std.proofs.Common.{◌≡◌, length, drop, replicate, fold}
-use Rattle.vsm_main.specs.Opening.{with_mask}
+use Rattle.vsm_report.specs.Opening.{with_mask}
 use Rattle.vsm_main.proofs.walk.opening_masks.Given as goal
 
 abbrev pub invariant-loop-page : goal.invariant-loop-page

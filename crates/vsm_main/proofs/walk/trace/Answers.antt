@@ -1,5 +1,5 @@
 use Rattle.std.proofs.Common.{sym, ◌∙◌}
-use Rattle.vsm_main.proofs.Stepping.{traced-flat}
+use Rattle.vsm_report.proofs.Stepping.{traced-flat}
 use Rattle.vsm_main.proofs.walk.trace.Goals as goal
 
 pub returns-clause-by_steps : goal.returns-clause-by_steps

@@ -1,7 +1,7 @@
 use Rattle.std.proofs.Common.{◌≡◌, drop, fold}
 use Rattle.vsm_main.specs.Fits.{Fits}
-use Rattle.vsm_main.specs.FlatRun.{acted}
-use Rattle.vsm_main.specs.Schedule.{after_entry}
+use Rattle.vsm_report.specs.FlatRun.{acted}
+use Rattle.vsm_report.specs.Schedule.{after_entry}
 use Rattle.vsm_main.proofs.walk.Walk.line.Given as goal
 
 abbrev pub invariant-loop-turns : goal.invariant-loop-turns

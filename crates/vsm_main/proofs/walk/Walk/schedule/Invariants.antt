@@ -1,7 +1,7 @@
 use Rattle.std.proofs.Common.{◌≡◌, drop, fold}
 use Rattle.vsm_main.specs.Fits.{Fits}
-use Rattle.vsm_main.specs.FlatRun.{acted}
-use Rattle.vsm_main.specs.Schedule.{after_line}
+use Rattle.vsm_report.specs.FlatRun.{acted}
+use Rattle.vsm_report.specs.Schedule.{after_line}
 use Rattle.vsm_main.proofs.walk.Walk.schedule.Given as goal
 
 abbrev pub invariant-loop-entries : goal.invariant-loop-entries

@@ -1,6 +1,6 @@
 use Rattle.std.proofs.Common.{◌≡◌, ◌+◌, ◌-◌, sym, ap, ◌∙◌, arith}
-use Rattle.vsm_main.specs.FlatRun.{acted}
-use Rattle.vsm_main.specs.Schedule.{after_turns}
+use Rattle.vsm_report.specs.FlatRun.{acted}
+use Rattle.vsm_report.specs.Schedule.{after_turns}
 use Rattle.vsm_main.proofs.Turning.{after_turns-add-one, after_turns-zero}
 use Rattle.vsm_main.proofs.walk.Walk.turns.Goals as goal
 

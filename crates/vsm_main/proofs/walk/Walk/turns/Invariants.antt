@@ -1,7 +1,7 @@
 use Rattle.std.proofs.Common.{◌≡◌, ◌-◌}
 use Rattle.vsm_main.specs.Fits.{Fits}
-use Rattle.vsm_main.specs.FlatRun.{acted}
-use Rattle.vsm_main.specs.Schedule.{after_turns}
+use Rattle.vsm_report.specs.FlatRun.{acted}
+use Rattle.vsm_report.specs.Schedule.{after_turns}
 use Rattle.vsm_main.proofs.walk.Walk.turns.Given as goal
 
 abbrev pub invariant-loop-turn : goal.invariant-loop-turn

@@ -1,4 +1,0 @@
-use Rattle.vsm_main.proofs.writer.put_ending.Goals as goal
-
-pub returns-in-Fault : goal.returns-in-Fault
-returns-in-Fault g c = rw (c.in-Fault.is, ← c.fault_word.ensures) c.put_pieces.ensures

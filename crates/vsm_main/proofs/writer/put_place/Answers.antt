@@ -1,6 +1,0 @@
-use Rattle.vsm_main.specs.Text.{place_text}
-use Rattle.vsm_main.proofs.writer.put_place.Goals as goal
-
-pub returns : goal.returns
-unfolding place_text
-returns g c = rw (← c.op_word-word.ensures, ← c.level_number-level.ensures) c.put_pieces.ensures

@@ -1,0 +1,5 @@
+use Rattle.vsm_base.proofs.Gathering.{gathers_put}
+use Rattle.vsm_report.proofs.writer.write.Goals as goal
+
+pub returns : goal.returns
+returns g c = gathers_put (rw c.new-buffer.ensures at c.in_ok-put_report.ensures) c.flush.ensures.put

@@ -1,0 +1,9 @@
+pub mod FlatRun
+pub mod Journal
+pub mod Marks
+pub mod Opening
+pub mod Pieces
+pub mod Schedule
+pub mod Text
+pub mod Trace
+pub mod Words

@@ -1,0 +1,17 @@
+//! The report of a script's run, its text, and the runs that contracts compare it with.
+#![tactic(auto)]
+
+mod digits;
+mod journal;
+mod marks;
+mod opening;
+mod pieces;
+mod report;
+mod words;
+mod writer;
+
+pub use report::{Line, Report, StepWord, Track, add_mark};
+pub use writer::write;
+
+#[cfg(test)]
+mod writer_tests;
