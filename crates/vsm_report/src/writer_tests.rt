@@ -140,6 +140,17 @@ fn put<T: Drop>(items: &mut Items<T>, item: T) -> Result<(), AllocError> {
     items.push(item)
 }
 
+// One line more. The last arguments name the types that a line holds, for the check.
+fn push(
+    lines: &mut Items<Line>,
+    line: &Line,
+    _step: &[StepWord],
+    _entry: &[Entry],
+    _mark: &[Mark],
+) -> Result<(), AllocError> {
+    put(lines, *line)
+}
+
 // One mark more.
 fn add(lines: &mut Items<Line>, level: Vtl, rip: u64, what: &What) -> Result<(), AllocError> {
     let mark = Mark {
@@ -149,10 +160,11 @@ fn add(lines: &mut Items<Line>, level: Vtl, rip: u64, what: &What) -> Result<(),
         first: 0,
         count: 0,
     };
-    put(lines, Line::Mark(VpIndex(0), mark))
+    let line = Line::Mark(VpIndex(0), mark);
+    push(lines, &line, &[], &[], &[])
 }
 
-fn granted(mask: Option<Mask>) -> Grant {
+fn grant(mask: Option<Mask>) -> Grant {
     Grant {
         page: Page(1),
         mask,
@@ -163,12 +175,12 @@ fn granted(mask: Option<Mask>) -> Grant {
 }
 
 fn add_accesses(lines: &mut Items<Line>) -> Result<(), AllocError> {
-    let allowed = granted(Some(Mask::all()));
-    add(lines, Vtl::Zero, 0, &What::Granted(allowed))?;
-    add(lines, Vtl::One, 0, &What::Granted(granted(None)))?;
-    add(lines, Vtl::Zero, 2, &What::Granted(allowed))?;
-    add(lines, Vtl::Zero, 3, &What::Granted(allowed))?;
-    add(lines, Vtl::Zero, 3, &What::Again(allowed))
+    let allowed = What::Granted(grant(Some(Mask::all())));
+    add(lines, Vtl::Zero, 0, &allowed)?;
+    add(lines, Vtl::One, 0, &What::Granted(grant(None)))?;
+    add(lines, Vtl::Zero, 2, &allowed)?;
+    add(lines, Vtl::Zero, 3, &allowed)?;
+    add(lines, Vtl::Zero, 3, &What::Again(grant(Some(Mask::all()))))
 }
 
 // The last stands where there is no operation.
@@ -212,7 +224,8 @@ fn add_others(lines: &mut Items<Line>) -> Result<(), AllocError> {
 }
 
 fn add_entry(lines: &mut Items<Line>, entry: &Entry) -> Result<(), AllocError> {
-    put(lines, Line::Entry(*entry))
+    let line = Line::Entry(*entry);
+    push(lines, &line, &[], &[], &[])
 }
 
 fn add_entries(lines: &mut Items<Line>, by: VpIndex, vp: VpIndex) -> Result<(), AllocError> {
@@ -284,7 +297,8 @@ fn writes_each_other_outcome(rt: HostRuntime) -> Result<(), Fail> {
 fn writes_the_journal_and_what_stands_at_the_end(rt: HostRuntime) -> Result<(), Fail> {
     let alloc = rt.alloc();
     let mut lines = Items::new(alloc);
-    put(&mut lines, Line::Step(VpIndex(0), StepWord::Enter))?;
+    let step = Line::Step(VpIndex(0), StepWord::Enter);
+    push(&mut lines, &step, &[], &[], &[])?;
     add_entries(&mut lines, VpIndex(0), VpIndex(1))?;
     add_round(&mut lines, VpIndex(0), VpIndex(1))?;
     let mut masks = Items::new(alloc);
