@@ -28,9 +28,8 @@ fn put<K: Sink>(sink: &mut K, buffer: &mut TextBuffer, piece: &Piece<'_>) -> Res
     match piece {
         Piece::Text(bytes) => buffer.put(sink, bytes),
         Piece::Decimal(n) => {
-            let mut room = [0u8; 20];
-            let at = digits::decimal(*n, &mut room);
-            buffer.put(sink, &room[at..])
+            let mut digits = itoa::Buffer::new();
+            buffer.put(sink, digits.format(*n).as_bytes())
         }
         Piece::Hex4(n) => {
             let mut digits = [0u8; 4];
