@@ -173,7 +173,100 @@ refused\n\
 ",
 };
 
-pub const ALL: [Case; 7] = [
+pub const MUST_BE_ZERO: Case = Case {
+    name: "must be zero",
+    script: b"\
+vsm 1\n\
+vps 1\n\
+pages 1\n\
+budget 10\n\
+started 1\n\
+program 0 0\n\
+set Rbx 0x11\n\
+set Rsp 0x22\n\
+get Rbx\n\
+set Cr8 16\n\
+schedule 0*5\n\
+end\n\
+",
+    status: Status::Ok,
+    text: b"\
+vsm-report 1 trace\n\
+0.0 0 set Rbx ok\n\
+0.0 1 set Rsp ok\n\
+0.0 2 get Rbx 0x0000000000000011\n\
+0.0 3 set Cr8 fault gp\n\
+end 0 fault gp\n\
+close\n\
+",
+};
+
+pub const USER_MODE: Case = Case {
+    name: "user mode",
+    script: b"\
+vsm 1\n\
+vps 1\n\
+pages 1\n\
+budget 10\n\
+started 1\n\
+program 0 0\n\
+set Cs 0x3000000000000000000000000\n\
+get Rflags\n\
+get Cr3\n\
+schedule 0*5\n\
+end\n\
+",
+    status: Status::Ok,
+    text: b"\
+vsm-report 1 trace\n\
+0.0 0 set Cs ok\n\
+0.0 1 get Rflags 0x0000000000000002\n\
+0.0 2 get Cr3 fault gp\n\
+end 0 fault gp\n\
+close\n\
+",
+};
+
+pub const REGISTERS: Case = Case {
+    name: "registers",
+    script: b"\
+vsm 1\n\
+vps 1\n\
+pages 2\n\
+budget 20\n\
+started 1\n\
+program 0 0\n\
+set Rax 0xfedcba9876543210\n\
+store 0x1008 Rax\n\
+load Rsp 0x1008\n\
+get Rsp\n\
+set Gdtr 0x123456789abcdef01234000000000000\n\
+get Gdtr\n\
+set Cs 0x2000000000000000000000000\n\
+set Rflags 0x46\n\
+get Sint0\n\
+schedule 0*9\n\
+end\n\
+",
+    status: Status::Ok,
+    text: b"\
+vsm-report 1 trace\n\
+0.0 0 set Rax ok\n\
+0.0 1 store ok page 1 mask 15 gen 0 value 0xfedcba9876543210\n\
+0.0 2 load ok page 1 mask 15 gen 0 value 0xfedcba9876543210\n\
+0.0 3 get Rsp 0xfedcba9876543210\n\
+0.0 4 set Gdtr ok\n\
+0.0 5 get Gdtr 0x123456789abcdef01234000000000000\n\
+0.0 6 set Cs ok\n\
+0.0 7 set Rflags ok\n\
+0.0 8 get Sint0 fault gp\n\
+end 0 fault gp\n\
+word 1:1 0xfedcba9876543210\n\
+close\n\
+",
+};
+
+pub const ALL: [Case; 10] = [
     EMPTY_PROGRAM,
     DENIED_STORE,
     LAST_WORD_AND_UNMAPPED,
@@ -181,4 +274,7 @@ pub const ALL: [Case; 7] = [
     CUT,
     MISALIGNED,
     CUT_IN_A_WORD,
+    MUST_BE_ZERO,
+    USER_MODE,
+    REGISTERS,
 ];
