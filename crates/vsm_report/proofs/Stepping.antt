@@ -1,10 +1,9 @@
 -- Walking a schedule step by step comes to what whole attempts come to.
-use Rattle.std.proofs.Common.{◌≡◌, ◌<◌, ◌≤◌, ◌+◌, ◌*◌, ℕ, zero, suc, Bool, true, false, cond, is_some, Option, Some, None, List, [], ◌∷◌, ◌++◌, fold, length, take, drop, replicate, slice_get, slice_index, refl, sym, ap, ◌∙◌, subst, append_assoc, unwrap_or, ◌-◌, arith}
+use Rattle.std.proofs.Common.{◌≡◌, ◌<◌, ◌≤◌, ◌+◌, ◌*◌, ℕ, zero, suc, Bool, true, false, cond, is_some, Option, Some, None, List, [], ◌∷◌, ◌++◌, fold, length, take, drop, replicate, slice_get, slice_index, refl, sym, ap, ◌∙◌, subst, append_assoc, ◌-◌, arith}
 use Rattle.std.proofs.lemmas.List.{length-append, length-replicate, length-set, get_or-append_right, get_or-replicate}
 use Rattle.std.proofs.Math.ListN.{get_or-append}
 use Rattle.std.proofs.Math.Seq.{take-append_seam, drop-append_seam}
 use Rattle.vsm_base.specs.declared.places.Page.{Page}
-use Rattle.vsm_core.specs.declared.mark.Ending.TheVariants as endings
 use Rattle.vsm_core.specs.declared.operation.Op.{Op}
 use Rattle.vsm_core.specs.declared.operation.Program.{Program}
 use Rattle.vsm_base.specs.declared.places.Limits.{Limits}

@@ -1,5 +1,5 @@
 -- The run of a script step by step on all shared words: a turn is every step of its processor up to its mark.
-use Rattle.std.specs.Prelude.{ℕ, ◌+◌, ◌*◌, List, [], ◌∷◌, ◌++◌, length, take, drop, if◌then◌else◌, nat_lt, is_some, replicate, slice_get}
+use Rattle.std.specs.Prelude.{ℕ, ◌+◌, ◌*◌, List, [], ◌++◌, length, take, drop, if◌then◌else◌, nat_lt, is_some, replicate, slice_get}
 use Rattle.vsm_core.specs.declared.operation.Program.{Program}
 use Rattle.vsm_core.specs.Attempt.{Outcome}
 use Rattle.vsm_core.specs.Processor.{Vp, opening, tree_of, settled}
