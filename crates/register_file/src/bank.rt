@@ -65,6 +65,10 @@ impl Bank {
 
     /// Makes the register of this name, as this level sees it, have this value, and changes no other.
     ///
+    /// The bits that must be zero, by this project's own rules: from bit 4 on in Cr8, from 16 in Efer, from 32 in
+    /// Rflags, Cr0, Cr4, Dr6 and Dr7, from 52 in Cr3; none in the segment registers, Ldtr and Tr; bits 47 to 0 in Idtr
+    /// and Gdtr; and from 64 in all others.
+    ///
     /// # Errors
     /// `BadValue` exactly where the value has a bit set that must be zero in this register. Then nothing changes.
     pub fn put(&mut self, level: Vtl, name: Name, value: u128) -> Result<(), BadValue>

@@ -5,7 +5,7 @@ ghost use Rattle.vsm_core.specs.Registers.{bits_of, has_bits, is_legal};
 use vsm_base::Name;
 
 /// The bits of a register that may be set: from the first on, and below the second. All others must be zero. This
-/// project's own table, after the Intel SDM, volume 3, System Architecture Overview.
+/// project's own table.
 #[tactic(auto, unfolding(vsm_core::specs::Registers::bits_of))]
 fn bits_of(name: Name) -> (u32, u32)
     ensures bits { result ≡ bits_of name }

@@ -76,8 +76,7 @@ pub struct PrivateSet {
     pub simp: u64,
 }
 
-/// What a level's own registers are before its first operation. This project's own table, after the Intel SDM,
-/// volume 3, Processor State After Reset.
+/// What a level's own registers are before its first operation. This project's own table.
 pub(crate) const OPENING: PrivateSet = PrivateSet {
     rsp: 0,
     rip: 0,
