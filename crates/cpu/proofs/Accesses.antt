@@ -1,21 +1,17 @@
 -- What one access comes to as a whole attempt.
-use Rattle.std.proofs.Common.{◌≡◌, ◌<◌, ◌/◌, ◌%◌, ◌==◌, ℕ, true, false, nat_lt, Option, Some, List, [], ◌∷◌, refl, sym, ap, ◌∙◌, arith, slice_index, slice_get}
+use Rattle.std.proofs.Common.{◌≡◌, ◌<◌, ◌/◌, ◌%◌, ◌==◌, ℕ, true, false, nat_lt, Some, List, [], ◌∷◌, refl, ap, ◌∙◌, arith, slice_index}
 use Rattle.std.proofs.lemmas.Bool.Decides.{nat_tests}
 use Rattle.vsm_base.specs.Masks.{allows}
 use Rattle.vsm_base.specs.declared.places.Access.{Access}
 use Rattle.vsm_base.specs.declared.places.Access.TheVariants.{Read, Write, Execute}
 use Rattle.vsm_base.specs.declared.places.Vtl.TheVariants.{Zero}
-use Rattle.vsm_core.specs.declared.mark.What.{What}
 use Rattle.vsm_core.specs.declared.mark.What.TheVariants.{Granted, Denied}
 use Rattle.vsm_core.specs.declared.mark.Posted.TheVariants.{Held}
-use Rattle.vsm_core.specs.Fills.{Cached, Filled, straight}
+use Rattle.vsm_core.specs.Fills.{Filled, straight}
 use Rattle.vsm_core.specs.State.{State}
 use Rattle.vsm_core.specs.Access.{fill_of, by_mask}
 use Rattle.vsm_core.specs.Attempt.{by_access, leaves}
 use Rattle.vsm_core.specs.Tree.{then_}
-use Rattle.vsm_core.specs.declared.operation.Op.{Op}
-use Rattle.vsm_core.specs.declared.operation.Program.{Program}
-use Rattle.vsm_core.specs.Processor.{Vp, AddsMark, IsSameProcessor, mark_of, marked, tree_of, settled_at, attempted}
 use Rattle.vsm_core.specs.Whole.{run_on, memory_place}
 use Rattle.cpu.specs.Stops.{Stops, goal_of, data_words, data_value}
 

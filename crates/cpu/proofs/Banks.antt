@@ -1,13 +1,12 @@
 -- What a bank of registers answers, as a state.
-use Rattle.std.proofs.Common.{◌≡◌, ◌↔◌, ◌<◌, ◌≤◌, ℕ, zero, suc, List, Option, None, nat_lt, arith, Bool, true, false, cond, Result, Ok, Err, IsOk, OnOk, OnErr, IsTrue, refl, sym, ap, ◌∙◌, subst}
+use Rattle.std.proofs.Common.{◌≡◌, ◌↔◌, ◌<◌, ◌≤◌, ℕ, zero, suc, List, None, arith, Bool, true, false, cond, Result, Ok, Err, IsOk, OnOk, OnErr, IsTrue, refl, ap}
 use Rattle.vsm_base.specs.declared.name.Name.{Name}
 use Rattle.vsm_base.specs.declared.places.Vtl.TheVariants.{Zero}
 use Rattle.register_file.specs.declared.bank.BadValue.{BadValue}
 use Rattle.vsm_core.specs.Registers.{Registers, is_legal, put, opening, opening_private, private_names, private_place, opening_value}
 use Rattle.vsm_base.specs.Names.{all_names}
-use Rattle.vsm_core.specs.declared.mark.Ending.{Ending}
 use Rattle.vsm_core.specs.declared.mark.What.TheVariants.{Plain}
-use Rattle.vsm_core.specs.Attempt.{Outcome, set_outcome, empties}
+use Rattle.vsm_core.specs.Attempt.{set_outcome, empties}
 use Rattle.vsm_core.specs.Processor.{ran_out}
 use Rattle.vsm_core.specs.Tree.{Ends}
 use Rattle.vsm_core.specs.State.{State, put_legal, gone_on, may_name, rip_of, put as put_state}

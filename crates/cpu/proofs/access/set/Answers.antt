@@ -1,5 +1,5 @@
 use Rattle.std.proofs.Common.{refl, sym, ap, ◌∙◌}
-use Rattle.vsm_core.specs.State.{State, gone_on}
+use Rattle.vsm_core.specs.State.{gone_on}
 use Rattle.cpu.specs.Stops.{state_of}
 use Rattle.cpu.proofs.Banks.{set_so}
 use Rattle.cpu.proofs.access.set.Goals as goal
