@@ -1,6 +1,6 @@
 // What an operation does to the registers and the memory words, a whole attempt at once.
 ghost use Rattle.std.specs.Prelude.{◌≡◌, ◌<◌, ◌*◌, ℕ, List, length};
-ghost use Rattle.vsm_core.specs.State.{State, word_of as word_of_lem, put_legal as put_legal_lem, gone_on, is_general as is_general_lem, may_name as may_name_lem, operand as operand_lem};
+ghost use Rattle.vsm_core.specs.State.{State, word_of as word_of_lem, put_legal as put_legal_lem, gone_on, may_name as may_name_lem, operand as operand_lem};
 ghost use Rattle.vsm_core.specs.Attempt.{by_access, attempt};
 ghost use Rattle.vsm_core.specs.Processor.{tree_of};
 ghost use Rattle.vsm_core.specs.Whole.{run_on};
@@ -30,34 +30,11 @@ fn go_on(bank: &mut Bank)
     put_legal(bank, Name::Rip, u128::from(rip) + 1);
 }
 
-fn is_general(name: Name) -> bool
-    ensures { result ≡ is_general_lem name }
-{
-    match name {
-        Name::Rax
-        | Name::Rcx
-        | Name::Rdx
-        | Name::Rbx
-        | Name::Rbp
-        | Name::Rsi
-        | Name::Rdi
-        | Name::R8
-        | Name::R9
-        | Name::R10
-        | Name::R11
-        | Name::R12
-        | Name::R13
-        | Name::R14
-        | Name::R15 => true,
-        _ => false,
-    }
-}
-
 fn may_name(bank: &Bank, name: Name) -> bool
     ensures { result ≡ may_name_lem (state_of bank.now) name }
 {
     let privilege = (bank.get(Vtl::Zero, Name::Cs) >> 96) % 4;
-    privilege == 0 || matches!(name, Name::Rsp | Name::Rflags) || is_general(name)
+    privilege == 0 || matches!(name, Name::Rsp | Name::Rflags) || name.general()
 }
 
 fn set(bank: &mut Bank, name: Name, value: u128) -> What

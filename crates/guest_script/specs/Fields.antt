@@ -2,7 +2,7 @@
 use Rattle.std.specs.Prelude.{ℕ, ◌+◌, ◌^◌, List, [], ◌∷◌, take, drop, Bool, true, false, ◌&&◌, if◌then◌else◌, ◌==◌, nat_lt, nat_le, Option, Some, None, Result, Ok, Err, position, ◌≡◌}
 use Rattle.std.specs.Char.{is_ascii_alphabetic}
 use Rattle.vsm_base.specs.Masks.{is_mask}
-use Rattle.vsm_base.specs.Names.{named_by}
+use Rattle.vsm_base.specs.Names.{named_by, is_general}
 use Rattle.vsm_base.specs.declared.name.Name.{Name}
 use Rattle.vsm_base.specs.declared.name.Name.TheVariants as names
 use Rattle.vsm_core.specs.declared.operation.Operand.{Operand}
@@ -47,30 +47,10 @@ number low high words = do
 abbrev pub valid_mask : ℕ → Result ℕ Why
 valid_mask bits = if is_mask bits then Ok bits else Err OutOfRange
 
--- a general register, or Rsp
-abbrev pub is_general : Name → Bool
-is_general names.Rax = true
-is_general names.Rcx = true
-is_general names.Rdx = true
-is_general names.Rbx = true
-is_general names.Rsp = true
-is_general names.Rbp = true
-is_general names.Rsi = true
-is_general names.Rdi = true
-is_general names.R8 = true
-is_general names.R9 = true
-is_general names.R10 = true
-is_general names.R11 = true
-is_general names.R12 = true
-is_general names.R13 = true
-is_general names.R14 = true
-is_general names.R15 = true
-is_general _ = false
-
--- a general register, whose value a store may write
-abbrev pub is_operand : Name → Bool
-is_operand names.Rsp = false
-is_operand name = is_general name
+-- a general register or Rsp, into which a load reads
+abbrev pub is_target : Name → Bool
+is_target names.Rsp = true
+is_target name = is_general name
 
 -- a register that set and get may name: not Cr0 while there is no paging, and never Rip or a register of level 1's
 -- intercepts
@@ -91,7 +71,7 @@ any_register (word ∷ words) = spelled BadName (named_by word) words
 unfoldable pub register : Words → Result (Name × Words) Why
 register words = do
   name ← any_register words
-  if is_general name.0 then Ok name else Err BadName
+  if is_target name.0 then Ok name else Err BadName
 
 -- the name of a register that set and get may name, and the words after it
 unfoldable pub named_register : Words → Result (Name × Words) Why
@@ -108,7 +88,7 @@ begins_with_letter (b ∷ word) = is_ascii_alphabetic b
 unfoldable pub register_operand : Words → Result (Operand × Words) Why
 register_operand words = do
   name ← any_register words
-  if is_operand name.0 then Ok (Register name.0, name.1) else Err BadName
+  if is_general name.0 then Ok (Register name.0, name.1) else Err BadName
 
 -- a number below 2^64 as what a store writes, and the words after it
 unfoldable pub number_operand : Words → Result (Operand × Words) Why

@@ -1,7 +1,7 @@
 // The fields of a line.
 ghost use Rattle.std.specs.Prelude.{◌≡◌, ◌<◌, ◌≤◌, IfOk, position, ◌==◌};
 ghost use Rattle.guest_script.specs.Lines.{words_of};
-ghost use Rattle.guest_script.specs.Fields.{Gives, any_number, number, is_general, is_operand, is_named, any_register, register, named_register, begins_with_letter, register_operand, number_operand, operand, no_more, entry};
+ghost use Rattle.guest_script.specs.Fields.{Gives, any_number, number, is_target, is_named, any_register, register, named_register, begins_with_letter, register_operand, number_operand, operand, no_more, entry};
 
 use crate::numbers::{number_of, numeral};
 use crate::words::next_word;
@@ -37,38 +37,13 @@ pub fn number(line: &[u8], low: u128, high: u128) -> Result<(u128, &[u8]), Why>
     }
 }
 
-// Whether it is a general register or Rsp.
-fn is_general(name: Name) -> bool
-    ensures { result ≡ is_general name }
+// Whether it is a general register or Rsp, into which a load reads.
+fn is_target(name: Name) -> bool
+    ensures { result ≡ is_target name }
 {
     match name {
-        Name::Rax
-        | Name::Rcx
-        | Name::Rdx
-        | Name::Rbx
-        | Name::Rsp
-        | Name::Rbp
-        | Name::Rsi
-        | Name::Rdi
-        | Name::R8
-        | Name::R9
-        | Name::R10
-        | Name::R11
-        | Name::R12
-        | Name::R13
-        | Name::R14
-        | Name::R15 => true,
-        _ => false,
-    }
-}
-
-// Whether it is a general register, whose value a store may write.
-fn is_operand(name: Name) -> bool
-    ensures { result ≡ is_operand name }
-{
-    match name {
-        Name::Rsp => false,
-        _ => is_general(name),
+        Name::Rsp => true,
+        _ => name.general(),
     }
 }
 
@@ -106,7 +81,7 @@ pub fn register(line: &[u8]) -> Result<(Name, &[u8]), Why>
     ensures { Gives (λ x. (x.0, words_of x.1.now)) result (register (words_of line.now)) }
 {
     let (name, rest) = any_register(line)?;
-    if is_general(name) {
+    if is_target(name) {
         Ok((name, rest))
     } else {
         Err(Why::BadName)
@@ -142,7 +117,7 @@ fn register_operand(line: &[u8]) -> Result<(Operand, &[u8]), Why>
     ensures { Gives (λ x. (x.0, words_of x.1.now)) result (register_operand (words_of line.now)) }
 {
     let (name, rest) = any_register(line)?;
-    if is_operand(name) {
+    if name.general() {
         Ok((Operand::Register(name), rest))
     } else {
         Err(Why::BadName)

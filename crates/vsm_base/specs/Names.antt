@@ -150,6 +150,25 @@ is_shared names.CrInterceptCr0Mask = true
 is_shared names.CrInterceptCr4Mask = true
 is_shared _ = false
 
+-- the general registers; the stack pointer is not among them
+abbrev pub is_general : Name → Bool
+is_general names.Rax = true
+is_general names.Rcx = true
+is_general names.Rdx = true
+is_general names.Rbx = true
+is_general names.Rbp = true
+is_general names.Rsi = true
+is_general names.Rdi = true
+is_general names.R8 = true
+is_general names.R9 = true
+is_general names.R10 = true
+is_general names.R11 = true
+is_general names.R12 = true
+is_general names.R13 = true
+is_general names.R14 = true
+is_general names.R15 = true
+is_general _ = false
+
 abbrev pub spelling : Name → List ℕ
 spelling names.Rax = codes "Rax"
 spelling names.Rcx = codes "Rcx"

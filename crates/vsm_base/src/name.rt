@@ -1,6 +1,6 @@
 // The registers that a processor keeps.
 ghost use Rattle.std.specs.Prelude.{◌≡◌, ◌≢◌, ◌==◌, find, IfSome, IfNone};
-ghost use Rattle.vsm_base.specs.Names.{number_of, is_shared, spelling, is_spelled, all_names, named_by};
+ghost use Rattle.vsm_base.specs.Names.{number_of, is_shared, is_general, spelling, is_spelled, all_names, named_by};
 ghost use Rattle.vsm_base.specs.declared.name.Name.{Name};
 
 /// A register that a virtual processor keeps, by its name (TLFS, HV_REGISTER_NAME; Intel SDM, volume 1, Basic
@@ -315,6 +315,31 @@ impl Name {
             | Name::CrInterceptControl
             | Name::CrInterceptCr0Mask
             | Name::CrInterceptCr4Mask => true,
+            _ => false,
+        }
+    }
+
+    /// Whether it is a general register: RAX, RCX, RDX, RBX, RBP, RSI, RDI or R8 to R15 (Intel SDM, General-Purpose
+    /// Registers). The stack pointer is not among them.
+    pub fn general(self) -> bool
+        ensures { result ≡ is_general self }
+    {
+        match self {
+            Name::Rax
+            | Name::Rcx
+            | Name::Rdx
+            | Name::Rbx
+            | Name::Rbp
+            | Name::Rsi
+            | Name::Rdi
+            | Name::R8
+            | Name::R9
+            | Name::R10
+            | Name::R11
+            | Name::R12
+            | Name::R13
+            | Name::R14
+            | Name::R15 => true,
             _ => false,
         }
     }

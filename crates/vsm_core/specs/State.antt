@@ -2,6 +2,7 @@
 use Rattle.std.specs.Prelude.{ℕ, ◌+◌, ◌/◌, ◌%◌, ◌^◌, ◌==◌, ◌||◌, Bool, true, false, if◌then◌else◌}
 use Rattle.vsm_base.specs.declared.name.Name.{Name}
 use Rattle.vsm_base.specs.declared.name.Name.TheVariants as names
+use Rattle.vsm_base.specs.Names.{is_general}
 use Rattle.vsm_base.specs.declared.places.Vtl.TheVariants.{Zero}
 use Rattle.vsm_core.specs.declared.operation.Operand.{Operand}
 use Rattle.vsm_core.specs.declared.operation.Operand.TheVariants.{Number, Register}
@@ -34,25 +35,6 @@ gone_on state = put_legal state names.Rip (rip_of state + 1)
 -- the privilege level: the two low bits of the code segment's selector
 abbrev pub privilege_of : State → ℕ
 privilege_of state = get state names.Cs / 2 ^ 96 % 4
-
--- the general registers
-abbrev pub is_general : Name → Bool
-is_general names.Rax = true
-is_general names.Rcx = true
-is_general names.Rdx = true
-is_general names.Rbx = true
-is_general names.Rbp = true
-is_general names.Rsi = true
-is_general names.Rdi = true
-is_general names.R8 = true
-is_general names.R9 = true
-is_general names.R10 = true
-is_general names.R11 = true
-is_general names.R12 = true
-is_general names.R13 = true
-is_general names.R14 = true
-is_general names.R15 = true
-is_general _ = false
 
 -- the registers that every privilege level may name
 abbrev pub is_free : Name → Bool
