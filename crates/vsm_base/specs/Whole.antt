@@ -1,5 +1,5 @@
 -- An input that is read to its end, and a text that is written whole or in part.
-use Rattle.std.specs.Prelude.{◌≡◌, ℕ, ◌+◌, ◌≤◌, List, ◌++◌, length, take, Option, Result, OnErr, OnOk}
+use Rattle.std.specs.Prelude.{◌≡◌, ℕ, ◌+◌, ◌≤◌, List, length, take, Option, Result, OnErr, OnOk}
 use Rattle.std.specs.Io.KnownBytes.{prepend_known, append_known}
 use Rattle.vsm_base.specs.Outside.{IsAtEnd, Rose}
 use Rattle.vsm_base.specs.declared.whole.WriteFailed.{WriteFailed}
@@ -32,16 +32,5 @@ AppendsFront old new text = (n : ℕ) × (new ≡ append_known old (take n text)
 pub record Puts (old new : Option (List ℕ)) (before now : ℕ) (result : Result (Unit {0}) WriteFailed) (text : List ℕ) : Type 0 where
   pub whole : OnOk result (new ≡ append_known old text)
   pub front : OnErr result (AppendsFront old new text)
-  pub later : before ≤ now
-  pub risen : OnErr result (Rose before now)
-
--- of what was held and the text behind it, a front went and the rest is held
-abbrev pub Passes : Option (List ℕ) → List ℕ → Option (List ℕ) → List ℕ → List ℕ → Type 0
-Passes old held new kept text = (went : List ℕ) × (new ≡ append_known old went) × (went ++ kept ≡ held ++ text)
-
--- the text was added behind what was held, or where a write failed a front of both went; the count of faults says where one did
-pub record Gathers (old : Option (List ℕ)) (held : List ℕ) (new : Option (List ℕ)) (kept : List ℕ) (before now : ℕ) (result : Result (Unit {0}) WriteFailed) (text : List ℕ) : Type 0 where
-  pub whole : OnOk result (Passes old held new kept text)
-  pub front : OnErr result (AppendsFront old new (held ++ text))
   pub later : before ≤ now
   pub risen : OnErr result (Rose before now)

@@ -13,7 +13,6 @@ mod reserved;
 mod status;
 mod std_streams;
 mod sure;
-mod text_buffer;
 mod whole;
 
 pub use items::Items;
@@ -28,7 +27,6 @@ pub use reserved::Reserved;
 pub use status::HvStatus;
 pub use std_streams::{StdSink, StdSource};
 pub use sure::{SureSink, SureSource};
-pub use text_buffer::TextBuffer;
 pub use whole::{InputError, LIMIT, WriteFailed, put_whole, read_whole};
 
 #[cfg(test)]

@@ -1,4 +1,5 @@
 pub mod FlatRun
+pub mod Gathering
 pub mod Journal
 pub mod Marks
 pub mod Opening

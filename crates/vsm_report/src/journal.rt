@@ -1,10 +1,11 @@
 // The lines of the journal's entries.
-ghost use Rattle.vsm_base.specs.Whole.{Gathers};
+ghost use Rattle.vsm_report.specs.Gathering.{Gathers};
 ghost use Rattle.vsm_report.specs.Journal.{one_text, two_text, entry_text};
 
 use crate::pieces::{Piece, put_pieces};
+use crate::text_buffer::TextBuffer;
 use crate::words::level_number;
-use vsm_base::{HvStatus, Sink, TextBuffer, VpIndex, Vtl, WriteFailed};
+use vsm_base::{HvStatus, Sink, VpIndex, Vtl, WriteFailed};
 use vsm_core::Entry;
 
 fn put_one<K: Sink>(

@@ -7,6 +7,7 @@ mod marks;
 mod opening;
 mod pieces;
 mod report;
+mod text_buffer;
 mod words;
 mod writer;
 

@@ -1,14 +1,15 @@
 // The lines of marks.
 ghost use Rattle.std.specs.Prelude.{◌≡◌};
-ghost use Rattle.vsm_base.specs.Whole.{Gathers};
+ghost use Rattle.vsm_report.specs.Gathering.{Gathers};
 ghost use Rattle.vsm_report.specs.Marks.{operation_at, place_text, bare_text, valued_text, granted_text, again_text, denied_text, register_fault_text, fault_text, register_text, value_text, intercept_text, hit_text, part_text, reply_text, entered_text, plain_text, eom_text, what_text, start_text, attempt_text, mark_text};
 
 use crate::pieces::{Piece, put_pieces};
+use crate::text_buffer::TextBuffer;
 use crate::words::{
     access_word, eom_word, fault_word, level_number, mask_piece, op_word, posted_word, value_piece,
 };
 use guest_script::Script;
-use vsm_base::{Name, Sink, TextBuffer, VpIndex, Vtl, WriteFailed};
+use vsm_base::{Name, Sink, VpIndex, Vtl, WriteFailed};
 use vsm_core::{Denial, EomWord, Grant, GuestFault, Mark, Op, Posted, What};
 
 #[tactic(auto, unfolding(crate::specs::Marks::operation_at))]

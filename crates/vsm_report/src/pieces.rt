@@ -1,11 +1,12 @@
 // Pieces of text into a buffer.
 ghost use Rattle.std.specs.Prelude.{◌≡◌};
 ghost use Rattle.std.specs.List.{flat_map};
-ghost use Rattle.vsm_base.specs.Whole.{Gathers};
+ghost use Rattle.vsm_report.specs.Gathering.{Gathers};
 ghost use Rattle.vsm_report.specs.Pieces.{spelled};
 
 use crate::digits;
-use vsm_base::{Sink, TextBuffer, WriteFailed};
+use crate::text_buffer::TextBuffer;
+use vsm_base::{Sink, WriteFailed};
 
 /// A piece of a line.
 #[derive(Clone, Copy, Debug, PartialEq, Eq)]

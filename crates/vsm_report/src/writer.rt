@@ -1,7 +1,8 @@
 // The text of a report into a sink.
 ghost use Rattle.std.specs.Prelude.{◌≡◌, length, slice_get};
 ghost use Rattle.std.specs.List.{flat_map, range_with_len};
-ghost use Rattle.vsm_base.specs.Whole.{Gathers, Puts};
+ghost use Rattle.vsm_base.specs.Whole.{Puts};
+ghost use Rattle.vsm_report.specs.Gathering.{Gathers};
 ghost use Rattle.vsm_report.specs.Opening.{opening_masks, opening_words};
 ghost use Rattle.vsm_report.specs.Text.{line_text, end_text_at, ended_text, ending_text, changed_mask_text, mask_text, changed_text, word_text, head_text, lines_text, ends_text, masks_text, words_text, close_text, text};
 
@@ -10,9 +11,10 @@ use crate::marks::put_mark;
 use crate::opening::{go_on_to, opening_mask};
 use crate::pieces::{Piece, put_pieces};
 use crate::report::{Line, Report};
+use crate::text_buffer::TextBuffer;
 use crate::words::fault_word;
 use guest_script::Script;
-use vsm_base::{Mask, Sink, TextBuffer, WriteFailed};
+use vsm_base::{Mask, Sink, WriteFailed};
 use vsm_core::Ending;
 
 // A step has no text yet.

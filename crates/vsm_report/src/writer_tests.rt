@@ -1,4 +1,5 @@
 // Texts of reports that were made by hand.
+use crate::text_buffer::TextBuffer;
 use crate::{Line, Report, StepWord, write};
 use guest_script::Script;
 use std::alloc::{AllocError, Global};
@@ -330,5 +331,23 @@ fn writes_when_the_buffer_is_full_and_at_the_end(rt: HostRuntime) -> Result<(), 
     let put = write(&report, &script, &mut sink);
     assert!(rt; put.is_ok());
     assert_eq!(rt; sink.taken().len(), 19 + 10 * 28 + 90 * 29 + 100 * 30 + 6);
+    Ok(())
+}
+
+#[test]
+fn a_buffer_reaches_its_sink_in_two_calls(rt: HostRuntime) -> Result<(), Fail> {
+    let alloc = rt.alloc();
+    let mut text = vec![in alloc; b'a'; 4500]?;
+    text.resize(5000, b'b')?;
+    let mut sink = MemSink::new(vec![in alloc; 0; 6000]?, vec![in alloc; 3]?, 4096);
+    let mut buffer = TextBuffer::new();
+    assert!(rt; buffer.put(&mut sink, &text).is_ok());
+    assert_eq!(rt; sink.taken().len(), 4096);
+    assert!(rt; buffer.flush(&mut sink).is_ok());
+    assert_eq!(rt; sink.taken(), text.as_slice());
+    assert!(rt; buffer.put(&mut sink, b"c").is_ok());
+    assert!(rt; buffer.flush(&mut sink).is_err());
+    assert!(rt; buffer.flush(&mut sink).is_ok());
+    assert_eq!(rt; sink.taken().len(), 5001);
     Ok(())
 }

@@ -1,7 +1,7 @@
 use Rattle.std.proofs.Common.{◌+◌, drop, rules}
 use Rattle.std.proofs.lemmas.Result.{err_from_is_err_and}
 use Rattle.std.specs.List.{flat_map}
-use Rattle.vsm_base.proofs.Gathering.{gathers_and, gathers_cut, gathers_same}
+use Rattle.vsm_report.proofs.Gathering.{gathers_and, gathers_cut, gathers_same}
 use Rattle.vsm_report.specs.Pieces.{spelled}
 use Rattle.vsm_report.proofs.Spelling.{flat_map_cut, flat_map_step}
 use Rattle.vsm_report.proofs.pieces.put_pieces.Goals as goal

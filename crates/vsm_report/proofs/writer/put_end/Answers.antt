@@ -1,5 +1,5 @@
 use Rattle.std.proofs.lemmas.Result.{err_from_is_err_and}
-use Rattle.vsm_base.proofs.Gathering.{gathers_and, gathers_cut}
+use Rattle.vsm_report.proofs.Gathering.{gathers_and, gathers_cut}
 use Rattle.vsm_report.proofs.writer.put_end.Goals as goal
 
 pub returns-in_err-put_ended : goal.returns-in_err-put_ended

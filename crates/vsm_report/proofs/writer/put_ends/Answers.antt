@@ -1,6 +1,6 @@
 use Rattle.std.proofs.Common.{length, arith}
 use Rattle.std.proofs.lemmas.Result.{err_from_is_err_and}
-use Rattle.vsm_base.proofs.Gathering.{gathers_and, gathers_cut, gathers_same}
+use Rattle.vsm_report.proofs.Gathering.{gathers_and, gathers_cut, gathers_same}
 use Rattle.vsm_report.specs.Text.{end_text_at}
 use Rattle.vsm_report.proofs.Spelling.{flat_map_range_cut, flat_map_range_more, flat_map_range_all}
 use Rattle.vsm_report.proofs.writer.put_ends.Goals as goal

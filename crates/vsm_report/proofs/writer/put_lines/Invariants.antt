@@ -1,6 +1,6 @@
 use Rattle.std.proofs.Common.{Ok, take}
 use Rattle.std.specs.List.{flat_map}
-use Rattle.vsm_base.specs.Whole.{Gathers}
+use Rattle.vsm_report.specs.Gathering.{Gathers}
 use Rattle.vsm_report.specs.Text.{line_text}
 use Rattle.vsm_report.proofs.writer.put_lines.Given as goal
 

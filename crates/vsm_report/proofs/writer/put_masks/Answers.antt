@@ -2,7 +2,7 @@ use Rattle.std.proofs.Common.{◌≡◌, length, refl, ap, ◌∙◌, arith}
 use Rattle.std.specs.Prelude.{slice_index}
 use Rattle.std.proofs.lemmas.List.{get_or_read_under}
 use Rattle.std.proofs.lemmas.Result.{err_from_is_err_and}
-use Rattle.vsm_base.proofs.Gathering.{gathers_and, gathers_cut, gathers_same}
+use Rattle.vsm_report.proofs.Gathering.{gathers_and, gathers_cut, gathers_same}
 use Rattle.vsm_report.specs.Opening.{opening_masks}
 use Rattle.vsm_report.specs.Text.{changed_mask_text, mask_text}
 use Rattle.vsm_report.proofs.Spelling.{flat_map_range_cut, flat_map_range_more, flat_map_range_all}

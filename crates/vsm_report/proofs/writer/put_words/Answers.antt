@@ -1,7 +1,7 @@
 use Rattle.std.proofs.Common.{length, ap, arith}
 use Rattle.std.specs.Prelude.{slice_index}
 use Rattle.std.proofs.lemmas.Result.{err_from_is_err_and}
-use Rattle.vsm_base.proofs.Gathering.{gathers_and, gathers_cut, gathers_same}
+use Rattle.vsm_report.proofs.Gathering.{gathers_and, gathers_cut, gathers_same}
 use Rattle.vsm_report.specs.Opening.{opening_words}
 use Rattle.vsm_report.specs.Text.{changed_text, word_text}
 use Rattle.vsm_report.proofs.PageWords.{page_at, page_still}

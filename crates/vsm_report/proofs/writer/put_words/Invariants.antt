@@ -1,6 +1,6 @@
 use Rattle.std.proofs.Common.{Ok, length, take, ◌/◌, ◌%◌, ◌<◌}
 use Rattle.std.specs.List.{flat_map, range_with_len}
-use Rattle.vsm_base.specs.Whole.{Gathers}
+use Rattle.vsm_report.specs.Gathering.{Gathers}
 use Rattle.vsm_report.specs.Opening.{opening_words, IsPage}
 use Rattle.vsm_report.specs.Text.{word_text}
 use Rattle.vsm_report.proofs.writer.put_words.Given as goal

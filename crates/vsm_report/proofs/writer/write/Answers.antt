@@ -1,4 +1,4 @@
-use Rattle.vsm_base.proofs.Gathering.{gathers_put}
+use Rattle.vsm_report.proofs.Gathering.{gathers_put}
 use Rattle.vsm_report.proofs.writer.write.Goals as goal
 
 pub returns : goal.returns

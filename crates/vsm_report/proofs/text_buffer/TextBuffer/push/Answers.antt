@@ -1,7 +1,7 @@
 use Rattle.std.proofs.Common.{◌∷◌, []}
 use Rattle.std.proofs.lemmas.Result.{err_from_is_err_and}
-use Rattle.vsm_base.proofs.Gathering.{gathers_stuck}
-use Rattle.vsm_base.proofs.text_buffer.TextBuffer.push.Goals as goal
+use Rattle.vsm_report.proofs.Gathering.{gathers_stuck}
+use Rattle.vsm_report.proofs.text_buffer.TextBuffer.push.Goals as goal
 
 pub returns-in_err-flush : goal.returns-in_err-flush
 returns-in_err-flush g c =

@@ -2,7 +2,8 @@
 use Rattle.std.proofs.Common.{◌≡◌, ℕ, ◌+◌, ◌<◌, List, [], ◌∷◌, ◌++◌, length, take, drop, get_or, Option, Result, Ok, Err, sym, ap, subst, ◌∙◌, append_assoc, arith}
 use Rattle.std.proofs.lemmas.List.{take_more, take-append-drop}
 use Rattle.std.specs.Io.KnownBytes.{append_known}
-use Rattle.vsm_base.specs.Whole.{Puts, Gathers, Passes, AppendsFront}
+use Rattle.vsm_base.specs.Whole.{Puts, AppendsFront}
+use Rattle.vsm_report.specs.Gathering.{Gathers, Passes}
 use Rattle.vsm_base.specs.declared.whole.WriteFailed.{WriteFailed}
 use Rattle.vsm_base.proofs.Known.{append_known-append}
 use Rattle.vsm_base.proofs.Putting.{front_more, front_behind}

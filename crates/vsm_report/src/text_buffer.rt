@@ -1,10 +1,11 @@
 // Text that is gathered before it goes to a sink.
 ghost use Rattle.std.specs.Prelude.{◌≡◌, [], ◌∷◌, OnOk, OnErr};
-ghost use Rattle.vsm_base.specs.Whole.{Puts, Gathers};
+ghost use Rattle.vsm_base.specs.Whole.{Puts};
+ghost use Rattle.vsm_report.specs.Gathering.{Gathers};
 
-use crate::{Sink, WriteFailed, put_whole};
 use arrayvec::ArrayVec;
 use std::marker::Model;
+use vsm_base::{Sink, WriteFailed, put_whole};
 
 const CAPACITY: usize = 4096;
 
