@@ -1,21 +1,24 @@
--- The attempt of an operation: loads and stores of level 0 with paging off, and registers. An operation that no script has yet is an undefined one.
-use Rattle.std.specs.Prelude.{ℕ, ◌%◌, ◌==◌, ◌&&◌, if◌then◌else◌, List, [], ◌∷◌, Option, Some, None}
+-- The attempt of an operation. An operation that no script has yet is an undefined one.
+use Rattle.std.specs.Prelude.{ℕ, ◌==◌, ◌&&◌, Bool, true, false, if◌then◌else◌, List, [], ◌∷◌, Option, Some, None}
+use Rattle.vsm_base.specs.Masks.{need}
 use Rattle.vsm_base.specs.declared.name.Name.{Name}
 use Rattle.vsm_base.specs.declared.name.Name.TheVariants as names
-use Rattle.vsm_base.specs.declared.places.Access.TheVariants.{Read, Write}
-use Rattle.vsm_base.specs.declared.places.Vtl.TheVariants.{Zero}
+use Rattle.vsm_base.specs.declared.places.Access.{Access}
+use Rattle.vsm_base.specs.declared.places.Access.TheVariants.{Read, Write, Execute}
+use Rattle.vsm_base.specs.declared.places.Vtl.{Vtl}
+use Rattle.vsm_core.specs.declared.mark.Grant.{Grant}
 use Rattle.vsm_core.specs.declared.mark.GuestFault.{GuestFault}
-use Rattle.vsm_core.specs.declared.mark.GuestFault.TheVariants.{Align, Undefined, Gp}
+use Rattle.vsm_core.specs.declared.mark.GuestFault.TheVariants.{Undefined, Gp}
 use Rattle.vsm_core.specs.declared.mark.What.{What}
-use Rattle.vsm_core.specs.declared.mark.What.TheVariants.{Granted, Denied, Fault, Value, Plain}
+use Rattle.vsm_core.specs.declared.mark.What.TheVariants.{Granted, Again, Denied, Fault, Value, Plain}
 use Rattle.vsm_core.specs.declared.mark.Posted.TheVariants.{Held}
 use Rattle.vsm_core.specs.declared.operation.Op.{Op}
-use Rattle.vsm_core.specs.declared.operation.Op.TheVariants.{Set, Get, Load, Store}
+use Rattle.vsm_core.specs.declared.operation.Op.TheVariants.{Set, Get, Load, Store, Exec, Spin, Jump, JumpNe}
 use Rattle.vsm_core.specs.Fills.{Fill, Cached, Filled, Emptied}
 use Rattle.vsm_core.specs.Registers.{is_legal}
-use Rattle.vsm_core.specs.State.{State, get, put, put_legal, gone_on, may_name, operand}
+use Rattle.vsm_core.specs.State.{State, get, put, put_legal, gone_to, gone_on, word_of, privilege_of, may_name, operand}
 use Rattle.vsm_core.specs.Tree.{Tree, Ends, Asks, Leaving, then_}
-use Rattle.vsm_core.specs.Access.{Goal, Decision, Grants, Denies, Faults, access}
+use Rattle.vsm_core.specs.Access.{Goal, Decision, Grants, Denies, Faults, access, start_fault}
 
 -- what an attempt came to, the state after it, and what it did to the cached translations
 pub record Outcome : Type 0 where
@@ -27,47 +30,95 @@ pub record Outcome : Type 0 where
 abbrev pub faulted : State → GuestFault → Outcome
 faulted state fault = record { what = Fault fault; state = state; does = [] }
 
-abbrev pub fills : Option Fill → List Cached
-fills None = []
-fills (Some fill) = Filled Zero fill ∷ []
+abbrev pub fills : Vtl → Option Fill → List Cached
+fills level None = []
+fills level (Some fill) = Filled level fill ∷ []
 
--- an access comes to its end: where it was granted, the state is the one that the value read leaves
-abbrev pub outcome_of : State → (ℕ → State) → Decision → Outcome
-outcome_of state granted (Grants grant fill) = record { what = Granted grant; state = granted grant.value; does = fills fill }
-outcome_of state granted (Denies page mask generation kind fill) =
-    record { what = Denied (record { page = record { 0 = page }; mask = mask; generation = generation; access = kind; posted = Held }); state = state; does = fills fill }
+-- an access comes to its end: where it was granted, to what the operation makes of the grant
+abbrev pub outcome_of : State → (Grant → What × State) → Decision → Outcome
+outcome_of state granted (Grants grant fill) = record { what = (granted grant).0; state = (granted grant).1; does = fills state.active fill }
+outcome_of state granted (Denies page mask generation kind gpa fill) =
+    record { what = Denied (record { page = record { 0 = page }; mask = mask; generation = generation; access = kind; posted = Held }); state = state; does = fills state.active fill }
 outcome_of state granted (Faults fault) = faulted state fault
 
 -- an access that has begun ends by its leave
-abbrev pub leaves : State → (ℕ → State) → Decision → Tree Outcome
+abbrev pub leaves : State → (Grant → What × State) → Decision → Tree Outcome
 leaves state granted decision = Asks Leaving (λ _. Ends (outcome_of state granted decision))
 
--- an operation that makes one access to a word
-abbrev pub by_access : State → (ℕ → State) → Goal → Tree Outcome
-by_access state granted goal = if goal.gva % 8 == 0 then then_ (access goal) (leaves state granted) else Ends (faulted state Align)
+-- an access with no first step is a fault
+abbrev pub begun : State → (Grant → What × State) → Goal → Option GuestFault → Tree Outcome
+begun state granted goal (Some fault) = Ends (faulted state fault)
+begun state granted goal None = then_ (access goal) (leaves state granted)
+
+-- an operation that makes one access
+abbrev pub by_access : State → (Grant → What × State) → Goal → Tree Outcome
+by_access state granted goal = begun state granted goal (start_fault goal)
+
+-- the access to an address that an operation of the active level asks for
+abbrev pub goal_of : ℕ → State → Access → Bool → ℕ → ℕ → Goal
+goal_of pages state kind aligned gva value = record {
+  level = state.active;
+  cpl = privilege_of state;
+  cr0 = word_of state names.Cr0;
+  cr3 = word_of state names.Cr3;
+  gva = gva;
+  access = kind;
+  need = need kind;
+  aligned = aligned;
+  value = value;
+  pages = pages;
+}
+
+-- a load keeps the word that it read
+abbrev pub loaded : State → Name → Grant → What × State
+loaded state name grant = (Granted grant, gone_on (put_legal state name grant.value))
+
+abbrev pub passed : State → Grant → What × State
+passed state grant = (Granted grant, gone_on state)
+
+-- a spin that found another value stays where it is
+abbrev pub spun : State → ℕ → Grant → What × State
+spun state value grant = if grant.value == value then passed state grant else (Again grant, state)
 
 -- a write of a control register that paging reads empties the level's translations
-abbrev pub empties : Name → List Cached
-empties names.Cr0 = Emptied Zero ∷ []
-empties names.Cr3 = Emptied Zero ∷ []
-empties names.Cr4 = Emptied Zero ∷ []
-empties _ = []
+abbrev pub empties : Vtl → Name → List Cached
+empties level names.Cr0 = Emptied level ∷ []
+empties level names.Cr3 = Emptied level ∷ []
+empties level names.Cr4 = Emptied level ∷ []
+empties level _ = []
 
 -- a register is written, if it may be named here and takes this value
 abbrev pub set_outcome : State → Name → ℕ → Outcome
 set_outcome state name value =
-    if may_name state name && is_legal name value then record { what = Plain; state = gone_on (put state name value); does = empties name } else faulted state Gp
+    if may_name state name && is_legal name value then record { what = Plain; state = gone_on (put state name value); does = empties state.active name } else faulted state Gp
 
 -- a register is read, if it may be named here
 abbrev pub get_outcome : State → Name → Outcome
 get_outcome state name = if may_name state name then record { what = Value (get state name); state = gone_on state; does = [] } else faulted state Gp
 
+-- the program goes on in this state
+abbrev pub plain : State → Outcome
+plain state = record { what = Plain; state = state; does = [] }
+
+abbrev pub jumped : State → Name → ℕ → ℕ → State
+jumped state name value rip = if word_of state name == value then gone_on state else gone_to state rip
+
 -- the whole attempt of an operation on so many pages, from this state on
 abbrev pub attempt : ℕ → State → Op → Tree Outcome
 attempt pages state (Set name value) = Ends (set_outcome state name value)
 attempt pages state (Get name) = Ends (get_outcome state name)
-attempt pages state (Load name gva) =
-    by_access state (λ x. gone_on (put_legal state name x)) (record { gva = gva.0; access = Read; value = 0; pages = pages })
-attempt pages state (Store gva what) =
-    by_access state (λ _. gone_on state) (record { gva = gva.0; access = Write; value = operand state what; pages = pages })
+attempt pages state (Load name gva) = by_access state (loaded state name) (goal_of pages state Read true gva.0 0)
+attempt pages state (Store gva what) = by_access state (passed state) (goal_of pages state Write true gva.0 (operand state what))
+attempt pages state (Exec gva) = by_access state (passed state) (goal_of pages state Execute false gva.0 0)
+attempt pages state (Spin gva value) = by_access state (spun state value) (goal_of pages state Read true gva.0 0)
+attempt pages state (Jump rip) = Ends (plain (gone_to state rip))
+attempt pages state (JumpNe name value rip) = Ends (plain (jumped state name value rip))
 attempt pages state _ = Ends (faulted state Undefined)
+
+-- how many steps an attempt may have that came to this
+abbrev pub most_steps_of : What → ℕ
+most_steps_of (Denied denial) = 12
+most_steps_of _ = 13
+
+abbrev pub most_steps : Outcome → ℕ
+most_steps o = most_steps_of o.what

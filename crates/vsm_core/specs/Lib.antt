@@ -3,8 +3,13 @@ pub mod Attempt
 pub mod Fills
 pub mod Processor
 pub mod Registers
+pub mod Seat
 pub mod Sound
+pub mod Stand
 pub mod State
+pub mod Steps
 pub mod Tree
+pub mod Turns
+pub mod Walk
 pub mod Whole
 pub mod Words

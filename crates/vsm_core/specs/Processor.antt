@@ -1,9 +1,12 @@
--- A processor: its registers, its marks and its ending.
-use Rattle.std.specs.Prelude.{◌≡◌, ℕ, ◌+◌, Bool, if◌then◌else◌, nat_lt, List, [], ◌∷◌, ◌++◌, length, Option, Some, None, slice_get}
+-- A processor: its registers, its marks, its events and its ending.
+use Rattle.std.specs.Prelude.{◌≡◌, ℕ, ◌+◌, ◌-◌, ◌≤◌, ◌==◌, Bool, true, false, if◌then◌else◌, nat_lt, List, [], ◌∷◌, ◌++◌, fold, map, take, drop, length, Option, Some, None, slice_get}
 use Rattle.vsm_base.specs.declared.places.Limits.{Limits}
-use Rattle.vsm_base.specs.declared.places.Vtl.TheVariants.{Zero}
+use Rattle.vsm_base.specs.declared.places.Vtl.{Vtl}
+use Rattle.vsm_base.specs.declared.places.Vtl.TheVariants.{Zero, One}
+use Rattle.vsm_core.specs.declared.event.Event.{Event}
+use Rattle.vsm_core.specs.declared.event.Event.TheVariants as events
 use Rattle.vsm_core.specs.declared.mark.What.{What}
-use Rattle.vsm_core.specs.declared.mark.What.TheVariants.{Denied, Fault, Hit}
+use Rattle.vsm_core.specs.declared.mark.What.TheVariants.{Again, Denied, Fault, Hit}
 use Rattle.vsm_core.specs.declared.mark.Posted.{Posted}
 use Rattle.vsm_core.specs.declared.mark.Posted.TheVariants.{Held}
 use Rattle.vsm_core.specs.declared.mark.GuestFault.TheVariants.{Undefined}
@@ -13,11 +16,14 @@ use Rattle.vsm_core.specs.declared.mark.Ending.TheVariants as endings
 use Rattle.vsm_core.specs.declared.operation.Op.{Op}
 use Rattle.vsm_core.specs.declared.operation.Program.{Program}
 use Rattle.vsm_core.specs.State.{State, rip_of, opening_state}
-use Rattle.vsm_core.specs.Tree.{Tree, Ends, Asks, Wants}
-use Rattle.vsm_core.specs.Attempt.{Outcome, attempt, faulted}
-use Rattle.vsm_core.specs.Whole.{Stop, run_on}
+use Rattle.vsm_core.specs.Steps.{learned}
+use Rattle.vsm_core.specs.Tree.{Tree, Ends, Asks, Wants, follow}
+use Rattle.vsm_core.specs.Attempt.{Outcome, attempt, faulted, most_steps_of}
+use Rattle.vsm_core.specs.Whole.{Flat, Stop, run_on}
 
--- a processor, with the lengths of its program's two parts
+-- a processor: what it was made with, its state, the operation that it keeps on with, what it has left, and its ending.
+-- The events of the attempt under way are those seen from `first` on. The events from `part` to `first` are of a spin's
+-- last attempt that found another value. Its mark is the last one as long as `again` holds
 pub record Vp : Type 0 where
   pub number : ℕ
   pub limits : Limits
@@ -25,8 +31,18 @@ pub record Vp : Type 0 where
   pub one_length : ℕ
   pub started : Bool
   pub state : State
+  pub op : Option Op
   pub marks : List Mark
+  pub seen : List Event
+  pub part : ℕ
+  pub first : ℕ
+  pub again : Bool
+  pub spins : ℕ
   pub ended : Option Ending
+
+-- how many reads of spins may find another value
+unfoldable pub spin_limit : ℕ
+spin_limit = 20000000
 
 abbrev pub held_by : Posted → Option Ending
 held_by Held = Some endings.Held
@@ -44,13 +60,31 @@ abbrev pub ran_out : ℕ → ℕ → ℕ → ℕ → Option Ending
 ran_out length_of_program budget rip marks =
     if nat_lt rip length_of_program then (if nat_lt marks budget then None else Some endings.Budget) else Some endings.Done
 
+abbrev pub spun_out : ℕ → Option Ending
+spun_out spins = if spins == spin_limit then Some endings.Spun else None
+
 abbrev pub or_else : Option Ending → Option Ending → Option Ending
 or_else (Some ending) other = Some ending
 or_else None other = other
 
--- the ending that holds after a mark, in the order in which endings are tried
-abbrev pub ending_after : Vp → What → ℕ → ℕ → Option Ending
-ending_after v what rip marks = or_else (stopped_by what) (ran_out v.zero_length v.limits.budget rip marks)
+-- the lengths and the operations of a level's program
+abbrev pub length_of : Vp → Vtl → ℕ
+length_of v Zero = v.zero_length
+length_of v One = v.one_length
+
+abbrev pub operations_of : Program → Vtl → List Op
+operations_of program Zero = program.zero
+operations_of program One = program.one
+
+-- the operation where the active level's program stands
+abbrev pub operation_at : Program → State → Option Op
+operation_at program state = slice_get (operations_of program state.active) (rip_of state)
+
+-- the ending that holds after a mark, in the order in which endings are tried: with so many marks that count for the
+-- budget, and so many reads of spins that found another value
+abbrev pub ending_after : Vp → What → State → ℕ → ℕ → Option Ending
+ending_after v what state marks spins =
+    or_else (stopped_by what) (or_else (ran_out (length_of v state.active) v.limits.budget (rip_of state) marks) (spun_out spins))
 
 -- a processor before its first attempt; one that has not started has no ending
 abbrev pub opening : ℕ → Limits → Bool → ℕ → ℕ → Vp
@@ -61,47 +95,121 @@ opening number limits started zero_length one_length = record {
   one_length = one_length;
   started = started;
   state = opening_state;
+  op = None;
   marks = [];
+  seen = [];
+  part = 0;
+  first = 0;
+  again = false;
+  spins = 0;
   ended = if started then ran_out zero_length limits.budget 0 0 else None;
 }
 
-abbrev pub mark_of : State → What → Mark
-mark_of state what = record { level = Zero; rip = rip_of state; what = what; first = 0; count = 0 }
+-- the marks that stay: not that of a spin that found another value
+abbrev pub standing : Vp → List Mark
+standing v = if v.again then take (length v.marks - 1) v.marks else v.marks
 
--- the processor after an attempt that came to this
+-- at the check of an attempt that walks, the events of the spin's last attempt go
+abbrev pub forgetting : Vp → Event → Vp
+forgetting v (events.Check generation) = record v { seen = take v.part v.seen ++ drop v.first v.seen; first = v.part }
+forgetting v _ = v
+
+-- the processor with an event more
+abbrev pub with_event : Vp → Event → Vp
+with_event v e = record v { seen = v.seen ++ e ∷ [] }
+
+-- the processor after an event of the attempt of this operation
+abbrev pub saw : Option Op → Vp → Event → Vp
+saw op v e = with_event (forgetting (record v { op = op; marks = standing v; again = false }) e) e
+
+-- the mark of the attempt under way
+abbrev pub mark_of : Vp → What → Mark
+mark_of v what = record { level = v.state.active; rip = rip_of v.state; what = what; first = v.part; count = length v.seen - v.part }
+
+-- the processor after an attempt that came to this, where its mark stays
 abbrev pub marked : Vp → Outcome → Vp
 marked v o = record v {
   state = o.state;
-  marks = v.marks ++ mark_of v.state o.what ∷ [];
-  ended = ending_after v o.what (rip_of o.state) (length v.marks + 1);
+  op = None;
+  marks = standing v ++ mark_of v o.what ∷ [];
+  part = length v.seen;
+  first = length v.seen;
+  again = false;
+  ended = ending_after v o.what o.state (length (standing v) + 1) v.spins;
 }
+
+-- the processor after a spin that found another value, and by which it has not ended: the mark stands until the next turn
+abbrev pub marked_again : Vp → Outcome → Vp
+marked_again v o = record v {
+  marks = standing v ++ mark_of v o.what ∷ [];
+  first = length v.seen;
+  again = true;
+  spins = v.spins + 1;
+}
+
+-- the processor after a spin that found another value once too often: nothing of the spin stays
+abbrev pub ended_spinning : Vp → Ending → Vp
+ended_spinning v ending = record v {
+  op = None;
+  marks = standing v;
+  seen = take v.part v.seen;
+  first = v.part;
+  again = false;
+  spins = v.spins + 1;
+  ended = Some ending;
+}
+
+abbrev pub marked_or_ended : Vp → Outcome → Option Ending → Vp
+marked_or_ended v o None = marked_again v o
+marked_or_ended v o (Some ending) = ended_spinning v ending
+
+-- the processor after an attempt that came to this
+abbrev pub came_to : What → Vp → Outcome → Vp
+came_to (Again grant) v o = marked_or_ended v o (ending_after v o.what o.state (length (standing v)) (v.spins + 1))
+came_to _ v o = marked v o
+
+-- the processor at what is left of its attempt: marked, if that is its end
+abbrev pub settled : Tree Outcome → Vp → Vp
+settled (Ends o) v = came_to o.what v o
+settled (Asks s k) v = v
+settled (Wants q k) v = v
 
 abbrev pub tree_of : ℕ → State → Option Op → Tree Outcome
 tree_of pages state None = Ends (faulted state Undefined)
 tree_of pages state (Some op) = attempt pages state op
 
--- the mark of an attempt that has ended
-abbrev pub settled : Vp → Tree Outcome → Vp
-settled v (Ends o) = marked v o
-settled v (Asks s k) = v
-settled v (Wants q k) = v
+-- the answers that the attempt under way has had
+abbrev pub answers_of : List Event → ℕ → List ℕ
+answers_of seen first = map learned (drop first seen)
 
--- a processor and the memory words
-pub record Did : Type 0 where
+-- what is left of the attempt of this operation
+abbrev pub rest_of : Vp → Option Op → Tree Outcome
+rest_of v op = follow (tree_of v.limits.pages v.state op) (answers_of v.seen v.first)
+
+-- the processor after these events and at this place of its attempt
+abbrev pub stopped_at : Option Op → Vp → List Event → Tree Outcome → Vp
+stopped_at op v es at = settled at (fold (saw op) v es)
+
+-- a processor and the words on which it works
+pub record Did (W : Type 0) : Type 0 where
   pub vp : Vp
-  pub words : List ℕ
+  pub words : W
 
-abbrev pub settled_at : Vp → Stop Outcome → Did
-settled_at v stop = record { vp = settled v stop.at; words = stop.words }
+abbrev pub did_stop : {W : Type 0} → Option Op → Vp → Stop Outcome W → Did W
+did_stop op v stop = record { vp = stopped_at op v stop.events stop.at; words = stop.words }
 
--- the whole attempt of the operation at Rip, over these masks, generation and words
-unfoldable pub attempted : Program → List ℕ → ℕ → Vp → List ℕ → Did
-attempted program masks generation v words =
-    settled_at v (run_on masks generation words (tree_of v.limits.pages v.state (slice_get program.zero (rip_of v.state))))
+-- the whole attempt of the operation where its program stands, at once
+unfoldable pub attempted : Program → Vp → Flat → Did Flat
+attempted program v flat =
+    did_stop (operation_at program v.state) v (run_on v.limits v.number flat (tree_of v.limits.pages v.state (operation_at program v.state)))
 
--- exactly one mark was added
-abbrev pub AddsMark : Vp → Vp → Type 0
-AddsMark old new = (mark : Mark) × (new.marks ≡ old.marks ++ mark ∷ [])
+-- the marks that a processor has left since it was so
+abbrev pub new_marks : Vp → Vp → List Mark
+new_marks old new = drop (length (standing old)) new.marks
+
+-- a mark has no more events than its attempt may have
+abbrev pub IsShort : Mark → Type 0
+IsShort mark = mark.count ≤ most_steps_of mark.what
 
 -- the same processor: what it was made with stays
 pub record IsSameProcessor (old new : Vp) : Type 0 where

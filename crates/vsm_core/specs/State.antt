@@ -1,8 +1,9 @@
--- A processor's state, as far as the operations that are built reach: its registers, seen from level 0.
+-- A processor's state, as far as the operations that are built reach: its registers, and the level that is active.
 use Rattle.std.specs.Prelude.{ℕ, ◌+◌, ◌/◌, ◌%◌, ◌^◌, ◌==◌, ◌||◌, Bool, true, if◌then◌else◌}
 use Rattle.vsm_base.specs.declared.name.Name.{Name}
 use Rattle.vsm_base.specs.declared.name.Name.TheVariants as names
 use Rattle.vsm_base.specs.Names.{is_general}
+use Rattle.vsm_base.specs.declared.places.Vtl.{Vtl}
 use Rattle.vsm_base.specs.declared.places.Vtl.TheVariants.{Zero}
 use Rattle.vsm_core.specs.declared.operation.Operand.{Operand}
 use Rattle.vsm_core.specs.declared.operation.Operand.TheVariants.{Number, Register}
@@ -10,12 +11,13 @@ use Rattle.vsm_core.specs.Registers.{Registers, is_legal, opening, get as get_in
 
 pub record State : Type 0 where
   pub registers : Registers
+  pub active : Vtl
 
 abbrev pub get : State → Name → ℕ
-get state name = get_in state.registers Zero name
+get state name = get_in state.registers state.active name
 
 abbrev pub put : State → Name → ℕ → State
-put state name value = record { registers = put_in state.registers Zero name value }
+put state name value = record { registers = put_in state.registers state.active name value; active = state.active }
 
 -- a register takes no value that has a must-be-zero bit
 abbrev pub put_legal : State → Name → ℕ → State
@@ -25,12 +27,16 @@ put_legal state name value = if is_legal name value then put state name value el
 abbrev pub word_of : State → Name → ℕ
 word_of state name = get state name % 2 ^ 64
 
--- the operation where the program stands
+-- the operation where the active level's program stands
 abbrev pub rip_of : State → ℕ
 rip_of state = word_of state names.Rip
 
+-- the active level's program stands there
+abbrev pub gone_to : State → ℕ → State
+gone_to state rip = put_legal state names.Rip rip
+
 abbrev pub gone_on : State → State
-gone_on state = put_legal state names.Rip (rip_of state + 1)
+gone_on state = gone_to state (rip_of state + 1)
 
 -- the privilege level: the two low bits of the code segment's selector
 abbrev pub privilege_of : State → ℕ
@@ -51,4 +57,4 @@ operand state (Number value) = value
 operand state (Register name) = word_of state name
 
 unfoldable pub opening_state : State
-opening_state = record { registers = opening }
+opening_state = record { registers = opening; active = Zero }

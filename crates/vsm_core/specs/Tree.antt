@@ -1,5 +1,6 @@
 -- What is left of an attempt, as a tree.
-use Rattle.std.specs.Prelude.{ℕ, zero, suc}
+use Rattle.std.specs.Prelude.{ℕ, suc, ◌≤◌, List, [], ◌∷◌}
+use Rattle.vsm_core.specs.declared.event.PendingWord.{PendingWord}
 use Rattle.vsm_core.specs.declared.request.Request.{Request}
 use Rattle.vsm_core.specs.declared.request.Reply.{Reply}
 
@@ -11,6 +12,8 @@ pub data WordStep : Type 0 where
   Reading : (page index : ℕ) → WordStep
   Writing : (page index value : ℕ) → WordStep
   Leaving : WordStep
+  Posting : (vp : ℕ) → PendingWord → (bits : ℕ) → WordStep
+  Taking : PendingWord → WordStep
 
 -- what is done from here on, whatever is answered: it comes to an end, asks one shared word and goes on by its
 -- answer, or wants a request served and goes on by the reply
@@ -25,9 +28,19 @@ then_ (Ends a) f = f a
 then_ (Asks s k) f = Asks s (λ x. then_ (k x) f)
 then_ (Wants q k) f = Wants q (λ r. then_ (k r) f)
 
--- it has ended after at most n more answers of words
-abbrev pub Within : {A : Type 0} → ℕ → Tree A → Type 0
-Within n (Ends a) = Unit {0}
-Within zero (Asks s k) = ⊥
-Within (suc n) (Asks s k) = (x : ℕ) → Within n (k x)
-Within n (Wants q k) = (r : Reply) → Within n (k r)
+-- what is left after the answer of one word
+abbrev pub after : {A : Type 0} → Tree A → ℕ → Tree A
+after (Ends a) x = Ends a
+after (Asks s k) x = k x
+after (Wants q k) x = Wants q k
+
+-- what is left after these answers of words
+abbrev pub follow : {A : Type 0} → Tree A → List ℕ → Tree A
+follow t [] = t
+follow t (x ∷ xs) = follow (after t x) xs
+
+-- whatever is answered, each end comes after no more steps than it may have; so many have been made already
+abbrev pub Counts : {A : Type 0} → (A → ℕ) → ℕ → Tree A → Type 0
+Counts most made (Ends a) = made ≤ most a
+Counts most made (Asks s k) = (x : ℕ) → Counts most (suc made) (k x)
+Counts most made (Wants q k) = (r : Reply) → Counts most made (k r)

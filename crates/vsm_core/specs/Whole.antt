@@ -1,32 +1,64 @@
--- A whole attempt at once, over a list of masks, a generation and a list of memory words.
-use Rattle.std.specs.Prelude.{ℕ, ◌+◌, ◌*◌, List, slice_index, slice_set}
-use Rattle.vsm_core.specs.Tree.{Tree, Ends, Asks, Wants, WordStep, Entering, Checking, Masking, Reading, Writing, Leaving}
+-- A whole attempt at once, over a list of masks, a generation, a list of posted words and a list of memory words.
+use Rattle.std.specs.Prelude.{ℕ, ◌+◌, ◌*◌, List, [], ◌∷◌, bit_or, slice_index, slice_set}
+use Rattle.vsm_base.specs.declared.places.Limits.{Limits}
+use Rattle.vsm_base.specs.Levels.{level_number}
+use Rattle.vsm_core.specs.declared.event.Event.{Event}
+use Rattle.vsm_core.specs.declared.event.PendingWord.{PendingWord}
+use Rattle.vsm_core.specs.declared.event.PendingWord.TheVariants.{Start, Vectors}
+use Rattle.vsm_core.specs.Steps.{made}
+use Rattle.vsm_core.specs.Tree.{Tree, Ends, Asks, Wants, WordStep, Entering, Checking, Masking, Reading, Writing, Leaving, Posting, Taking}
 
 -- the place of a memory word among all words of memory
 abbrev pub memory_place : ℕ → ℕ → ℕ
 memory_place page index = 512 * page + index
 
--- what a step is answered
-abbrev pub answer_in : List ℕ → ℕ → List ℕ → WordStep → ℕ
-answer_in masks generation words Entering = 0
-answer_in masks generation words Checking = generation
-answer_in masks generation words (Masking page) = slice_index masks page
-answer_in masks generation words (Reading page index) = slice_index words (memory_place page index)
-answer_in masks generation words (Writing page index value) = 0
-answer_in masks generation words Leaving = 0
+-- the place of a processor's start word, or of one of its words of pending vectors, among all of these: the start
+-- words first, then eight words of vectors for each processor, by level and part
+abbrev pub posted_place : Limits → ℕ → PendingWord → ℕ
+posted_place limits p Start = p
+posted_place limits p (Vectors level part) = limits.vps + 8 * p + 4 * level_number level + part
 
--- the memory words after a step
-abbrev pub words_after : List ℕ → WordStep → List ℕ
-words_after words (Writing page index value) = slice_set words (memory_place page index) value
-words_after words _ = words
+-- what an attempt works on: the masks and the generation, the words that are posted to, and the memory words
+pub record Flat : Type 0 where
+  pub masks : List ℕ
+  pub generation : ℕ
+  pub posted : List ℕ
+  pub memory : List ℕ
 
--- where an attempt stops, and the words then
-pub record Stop (A : Type 0) : Type 0 where
+-- what a step of a processor learns
+abbrev pub answer_in : Limits → ℕ → Flat → WordStep → ℕ
+answer_in limits p flat Entering = 0
+answer_in limits p flat Checking = flat.generation
+answer_in limits p flat (Masking page) = slice_index flat.masks page
+answer_in limits p flat (Reading page index) = slice_index flat.memory (memory_place page index)
+answer_in limits p flat (Writing page index value) = 0
+answer_in limits p flat Leaving = 0
+answer_in limits p flat (Posting vp word bits) = 0
+answer_in limits p flat (Taking word) = slice_index flat.posted (posted_place limits p word)
+
+abbrev pub with_posted : Flat → ℕ → ℕ → Flat
+with_posted flat place value = record flat { posted = slice_set flat.posted place value }
+
+-- the words after a step of a processor
+abbrev pub flat_after : Limits → ℕ → Flat → WordStep → Flat
+flat_after limits p flat (Writing page index value) = record flat { memory = slice_set flat.memory (memory_place page index) value }
+flat_after limits p flat (Posting vp word bits) = with_posted flat (posted_place limits vp word) (bit_or (slice_index flat.posted (posted_place limits vp word)) bits)
+flat_after limits p flat (Taking word) = with_posted flat (posted_place limits p word) 0
+flat_after limits p flat _ = flat
+
+-- where an attempt stops, its events on the way there, oldest first, and the words then
+pub record Stop (A W : Type 0) : Type 0 where
   pub at : Tree A
-  pub words : List ℕ
+  pub events : List Event
+  pub words : W
 
--- the steps up to the end or to the next request
-abbrev pub run_on : {A : Type 0} → List ℕ → ℕ → List ℕ → Tree A → Stop A
-run_on masks generation words (Ends a) = record { at = Ends a; words = words }
-run_on masks generation words (Asks s k) = run_on masks generation (words_after words s) (k (answer_in masks generation words s))
-run_on masks generation words (Wants q k) = record { at = Wants q k; words = words }
+-- one event before
+abbrev pub later : {A W : Type 0} → Event → Stop A W → Stop A W
+later e stop = record { at = stop.at; events = e ∷ stop.events; words = stop.words }
+
+-- the steps of a processor up to the end of its attempt or to its next request
+abbrev pub run_on : {A : Type 0} → Limits → ℕ → Flat → Tree A → Stop A Flat
+run_on limits p flat (Ends a) = record { at = Ends a; events = []; words = flat }
+run_on limits p flat (Asks s k) =
+    later (made s (answer_in limits p flat s)) (run_on limits p (flat_after limits p flat s) (k (answer_in limits p flat s)))
+run_on limits p flat (Wants q k) = record { at = Wants q k; events = []; words = flat }

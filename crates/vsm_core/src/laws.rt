@@ -1,11 +1,12 @@
 // Laws of the definitions. Each function's contract is the law; it computes nothing.
 ghost use Rattle.std.specs.Prelude.{ℕ, List, ◌≡◌, ◌<◌};
-ghost use Rattle.vsm_core.specs.Tree.{Within};
+ghost use Rattle.vsm_core.specs.Tree.{Counts};
 ghost use Rattle.vsm_core.specs.State.{State};
-ghost use Rattle.vsm_core.specs.Attempt.{attempt};
-ghost use Rattle.vsm_core.specs.Sound.{Sound, IsOver, phase_of};
+ghost use Rattle.vsm_core.specs.Attempt.{attempt, most_steps};
+ghost use Rattle.vsm_core.specs.Sound.{Sound, IsOver};
+ghost use Rattle.vsm_core.specs.Steps.{phase_of};
 ghost use Rattle.vsm_base.specs.declared.places.Limits.{Limits};
-ghost use Rattle.vsm_core.specs.Whole.{run_on};
+ghost use Rattle.vsm_core.specs.Whole.{Flat, run_on};
 ghost use Rattle.vsm_core.specs.Words.{Holds, SameStop, steps_on};
 ghost use Rattle.vsm_core.specs.declared.event.Event.{Event};
 ghost use Rattle.vsm_core.specs.declared.event.Phase.TheVariants.{Idle};
@@ -13,18 +14,18 @@ ghost use Rattle.vsm_core.specs.declared.operation.Op.{Op};
 
 /// An attempt asks each step only where it may be made, whatever the words answer, and ends between two accesses.
 pub fn attempts_are_sound()
-    ensures { (pages : ℕ) (state : State) (op : Op) (events : List Event) → phase_of events ≡ Idle
-        → Sound pages IsOver events (attempt pages state op) }
+    ensures { (limits : Limits) (state : State) (op : Op) (events : List Event) → phase_of events ≡ Idle
+        → Sound limits IsOver events (attempt limits.pages state op) }
 {}
 
-/// An attempt has at most thirteen steps, whatever the words answer.
+/// Whatever the words answer, an attempt has at most thirteen steps, and at most twelve where it is denied.
 pub fn attempts_are_short()
-    ensures { (pages : ℕ) (state : State) (op : Op) → Within 13 (attempt pages state op) }
+    ensures { (pages : ℕ) (state : State) (op : Op) → Counts most_steps 0 (attempt pages state op) }
 {}
 
 /// An attempt whose steps are made one by one on all the shared words comes to what it comes to at once over the
-/// masks, the generation and the memory that these words hold.
+/// masks, the generation, the posted words and the memory that these words hold.
 pub fn attempts_are_whole()
-    ensures { (limits : Limits) (p : ℕ) (state : State) (op : Op) (words masks : List ℕ) (generation : ℕ) (memory : List ℕ) → p < limits.vps → Holds limits words masks generation memory
-        → SameStop limits masks generation (steps_on limits p words (attempt limits.pages state op)) (run_on masks generation memory (attempt limits.pages state op)) }
+    ensures { (limits : Limits) (p : ℕ) (state : State) (op : Op) (words : List ℕ) (flat : Flat) → p < limits.vps → Holds limits words flat
+        → SameStop limits (steps_on limits p words (attempt limits.pages state op)) (run_on limits p flat (attempt limits.pages state op)) }
 {}
