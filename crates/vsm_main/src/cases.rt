@@ -266,7 +266,178 @@ close\n\
 ",
 };
 
-pub const ALL: [Case; 10] = [
+pub const TABLE_PAGE_DENIED: Case = Case {
+    name: "table page denied",
+    script: b"\
+vsm 1\n\
+vps 1\n\
+pages 8\n\
+budget 10\n\
+started 1\n\
+mask 4 0\n\
+word 2 0 0x3003\n\
+word 3 0 0x4003\n\
+word 4 0 0x5003\n\
+word 5 0 0x6003\n\
+program 0 0\n\
+set Cr3 0x2000\n\
+set Cr0 0x80000001\n\
+store 0 9\n\
+schedule 0*5\n\
+end\n\
+",
+    status: Status::Ok,
+    text: b"\
+vsm-report 1 trace\n\
+0.0 0 set Cr3 ok\n\
+0.0 1 set Cr0 ok\n\
+0.0 2 store denied page 4 mask 0 gen 0 access read held\n\
+end 0 held\n\
+close\n\
+",
+};
+
+pub const SPIN_AGAIN: Case = Case {
+    name: "spin again",
+    script: b"\
+vsm 1\n\
+vps 2\n\
+pages 2\n\
+budget 10\n\
+started 2\n\
+program 0 0\n\
+store 0x1000 5\n\
+program 1 0\n\
+spin 0x1000 5\n\
+schedule 1 0 1\n\
+end\n\
+",
+    status: Status::Ok,
+    text: b"\
+vsm-report 1 trace\n\
+1.0 0 spin again page 1 mask 15 gen 0 value 0x0000000000000000\n\
+0.0 0 store ok page 1 mask 15 gen 0 value 0x0000000000000005\n\
+1.0 0 spin ok page 1 mask 15 gen 0 value 0x0000000000000005\n\
+end 0 done\n\
+end 1 done\n\
+word 1:0 0x0000000000000005\n\
+close\n\
+",
+};
+
+pub const WALKED: Case = Case {
+    name: "walked",
+    script: b"\
+vsm 1\n\
+vps 1\n\
+pages 8\n\
+budget 40\n\
+started 1\n\
+word 2 256 0x3007\n\
+word 3 0 0x4007\n\
+word 4 0 0x5007\n\
+word 5 1 0x6003\n\
+program 0 0\n\
+set Cr3 0x2000\n\
+set Cr0 0x80000001\n\
+store 0xffff800000001008 0x2a\n\
+load Rbx 0xffff800000001008\n\
+jumpne Rbx 0x2a 0\n\
+exec 0xffff80000000100b\n\
+jump 7\n\
+spin 0xffff800000001008 42\n\
+set Cs 0x3000000000000000000000000\n\
+load Rax 0xffff800000001008\n\
+schedule 0*20\n\
+end\n\
+",
+    status: Status::Ok,
+    text: b"\
+vsm-report 1 trace\n\
+0.0 0 set Cr3 ok\n\
+0.0 1 set Cr0 ok\n\
+0.0 2 store ok page 6 mask 15 gen 0 value 0x000000000000002a\n\
+0.0 3 load ok page 6 mask 15 gen 0 value 0x000000000000002a\n\
+0.0 4 jumpne ok\n\
+0.0 5 exec ok page 6 mask 15 gen 0\n\
+0.0 6 jump ok\n\
+0.0 7 spin ok page 6 mask 15 gen 0 value 0x000000000000002a\n\
+0.0 8 set Cs ok\n\
+0.0 9 load fault page\n\
+end 0 fault page\n\
+word 6:1 0x000000000000002a\n\
+close\n\
+",
+};
+
+pub const EIGHT_ENDINGS: Case = Case {
+    name: "eight endings",
+    script: b"\
+vsm 1\n\
+vps 8\n\
+pages 8\n\
+budget 4\n\
+started 8\n\
+mask 1 1\n\
+word 2 0 0x3007\n\
+word 3 0 0x4007\n\
+word 4 0 0x5007\n\
+word 5 1 0x6002\n\
+program 0 0\n\
+set Rax 7\n\
+program 1 0\n\
+jump 0\n\
+program 2 0\n\
+store 0x1000 1\n\
+program 3 0\n\
+load Rax 1\n\
+program 4 0\n\
+set Cr3 0x2000\n\
+set Cr0 0x80000001\n\
+load Rax 0x800000000000\n\
+program 5 0\n\
+load Rax 0x8000\n\
+program 6 0\n\
+set Cr3 0x2000\n\
+set Cr0 0x80000001\n\
+load Rax 0x1000\n\
+program 7 0\n\
+spin 0x1008 1\n\
+schedule 7 6 5 4 3 2 1 0\n\
+schedule 6*2 4*2 1*5 0*3\n\
+end\n\
+",
+    status: Status::Ok,
+    text: b"\
+vsm-report 1 trace\n\
+7.0 0 spin again page 1 mask 1 gen 0 value 0x0000000000000000\n\
+6.0 0 set Cr3 ok\n\
+5.0 0 load fault unmapped\n\
+4.0 0 set Cr3 ok\n\
+3.0 0 load fault align\n\
+2.0 0 store denied page 1 mask 1 gen 0 access write held\n\
+1.0 0 jump ok\n\
+0.0 0 set Rax ok\n\
+6.0 1 set Cr0 ok\n\
+6.0 2 load fault page\n\
+4.0 1 set Cr0 ok\n\
+4.0 2 load fault noncanonical\n\
+1.0 0 jump ok\n\
+1.0 0 jump ok\n\
+1.0 0 jump ok\n\
+end 0 done\n\
+end 1 budget\n\
+end 2 held\n\
+end 3 fault align\n\
+end 4 fault noncanonical\n\
+end 5 fault unmapped\n\
+end 6 fault page\n\
+end 7 cut\n\
+close\n\
+",
+};
+
+pub const ALL: [Case; 14] = [
     EMPTY_PROGRAM,
     DENIED_STORE,
     LAST_WORD_AND_UNMAPPED,
@@ -277,4 +448,8 @@ pub const ALL: [Case; 10] = [
     MUST_BE_ZERO,
     USER_MODE,
     REGISTERS,
+    TABLE_PAGE_DENIED,
+    SPIN_AGAIN,
+    WALKED,
+    EIGHT_ENDINGS,
 ];

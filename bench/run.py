@@ -1,0 +1,95 @@
+#!/usr/bin/env python3
+"""Measures the proved program on the largest scripts that the language allows, and on half of each.
+
+Usage, at the top of the repository, after `(cd crates/vsm_main && rt run -- trace < ../../examples/...)` has built the
+program: `python3 bench/run.py [PROGRAM]`. It makes its scripts in a temporary folder and prints one line a case: the
+size of the script, the size of the report, the best time of five runs and the peak memory.
+"""
+import os
+import sys
+import tempfile
+import time
+
+PROGRAM = sys.argv[1] if len(sys.argv) > 1 else "crates/vsm_main/out/vsm_main"
+RUNS = 5
+PAGES = 256
+# Four tables stand on pages 2 to 5, and map page I at I * 4096 from page 6 on.
+TABLES = ["word 2 0 0x3007", "word 3 0 0x4007", "word 4 0 0x5007"] + [
+    f"word 5 {page} {page * 4096 + 7:#x}" for page in range(6, PAGES)
+]
+PAGING_ON = ["set Cr3 0x2000", "set Cr0 0x80000001"]
+
+
+def script(vps, lines, programs, schedule, pages=PAGES):
+    head = ["vsm 1", f"vps {vps}", f"pages {pages}", "budget 10000", f"started {vps}"]
+    bodies = []
+    for vp, program in enumerate(programs):
+        bodies += [f"program {vp} 0"] + program
+    return "\n".join(head + lines + bodies + schedule + ["end"]) + "\n"
+
+
+def walker(vp):
+    """Stores and loads through the tables, over pages of its own, again and again."""
+    ops = []
+    for k in range(31):
+        address = (6 + vp * 31 + k) * 4096 + k * 8
+        ops += [f"store {address:#x} {k + 1}", f"load Rax {address:#x}"]
+    return PAGING_ON + ops + ["jump 2"]
+
+
+def walks(vps, turns):
+    each = turns // vps
+    return script(vps, TABLES, [walker(vp) for vp in range(vps)], [f"schedule {' '.join(f'{vp}*{each}' for vp in range(vps))}"])
+
+
+def in_turns(vps, turns):
+    """The same with a schedule entry for each turn."""
+    line = "schedule " + " ".join(str(vp) for vp in range(vps))
+    return script(vps, TABLES, [walker(vp) for vp in range(vps)], [line] * (turns // vps))
+
+
+def spins(turns):
+    return script(8, [], [["spin 0x1000 1"]] * 8, [f"schedule {' '.join(f'{vp}*{turns // 8}' for vp in range(8))}"])
+
+
+def words(count):
+    lines = [f"word {k // 512} {k % 512} {k + 1}" for k in range(count)]
+    return script(1, lines, [["load Rax 0"]], ["schedule 0"])
+
+
+CASES = [
+    ("walks, 8 processors, 80,000 turns", walks(8, 80_000)),
+    ("walks, 8 processors, 40,000 turns", walks(8, 40_000)),
+    ("walks, 1 processor, 10,000 turns", walks(1, 10_000)),
+    ("walks, an entry a turn, 80,000 turns", in_turns(8, 80_000)),
+    ("walks, an entry a turn, 40,000 turns", in_turns(8, 40_000)),
+    ("spins in vain, 100,000 turns", spins(100_000)),
+    ("spins in vain, 50,000 turns", spins(50_000)),
+    ("60,000 words", words(60_000)),
+    ("30,000 words", words(30_000)),
+]
+
+
+def run(path, out):
+    """Runs the program once, and tells its time in seconds and its peak memory in KiB."""
+    begin = time.perf_counter()
+    pid = os.fork()
+    if pid == 0:
+        os.dup2(os.open(path, os.O_RDONLY), 0)
+        os.dup2(os.open(out, os.O_WRONLY | os.O_CREAT | os.O_TRUNC, 0o644), 1)
+        os.execv(PROGRAM, [PROGRAM, "trace"])
+    _, status, usage = os.wait4(pid, 0)
+    seconds = time.perf_counter() - begin
+    if status != 0:
+        sys.exit(f"{PROGRAM} ended with {os.waitstatus_to_exitcode(status)} on {path}")
+    return seconds, usage.ru_maxrss
+
+
+with tempfile.TemporaryDirectory() as folder:
+    for name, text in CASES:
+        path, out = os.path.join(folder, "script"), os.path.join(folder, "report")
+        with open(path, "w") as file:
+            file.write(text)
+        runs = [run(path, out) for _ in range(RUNS)]
+        seconds, peak = min(r[0] for r in runs), max(r[1] for r in runs)
+        print(f"{name}: script {len(text):,} bytes, report {os.path.getsize(out):,} bytes, {seconds:.3f} s, {peak / 1024:.1f} MiB")
