@@ -47,13 +47,12 @@ fn is_target(name: Name) -> bool
     }
 }
 
-// Whether `set` and `get` may name it. Not Cr0 while there is no paging.
+// Whether `set` and `get` may name it.
 fn is_named(name: Name) -> bool
     ensures { result ≡ is_named name }
 {
     match name {
         Name::Rip
-        | Name::Cr0
         | Name::CrInterceptControl
         | Name::CrInterceptCr0Mask
         | Name::CrInterceptCr4Mask => false,
