@@ -45,12 +45,12 @@ vsm_line r ws = do
   end ← no_more version.1
   Ok (record r { stage = stages.Vps })
 
--- vps N
+-- vps N, with which programs and schedule begin anew
 unfoldable pub vps_line : Reading → Words → Result Reading Why
 vps_line r ws = do
   n ← number 1 (most_vps + 1) ws
   end ← no_more n.1
-  Ok (record r { stage = stages.Pages; limits = record r.limits { vps = n.0 }; started = n.0; programs = nothings n.0 })
+  Ok (record r { stage = stages.Pages; limits = record r.limits { vps = n.0 }; started = n.0; programs = nothings n.0; schedule = [] })
 
 -- pages N
 unfoldable pub pages_line : Reading → Words → Result Reading Why

@@ -1,6 +1,7 @@
 -- The limits that a script keeps.
-use Rattle.std.specs.Prelude.{◌≡◌, ◌≤◌, ℕ, length}
-use Rattle.guest_script.specs.Schedules.{all_turns}
+use Rattle.std.specs.Prelude.{◌≡◌, ◌≤◌, ℕ, length, IsTrue}
+use Rattle.std.specs.List.{list_all}
+use Rattle.guest_script.specs.Schedules.{all_turns, all_known}
 use Rattle.guest_script.specs.declared.script.Script.{Script}
 
 -- how many processors a script may have as the language stands
@@ -22,3 +23,4 @@ pub record IsWithin (s : Script) : Type 0 where
   pub started : s.started ≡ s.limits.vps
   pub programs : length s.programs ≡ s.limits.vps
   pub turns_few : all_turns s.schedule ≤ 100000
+  pub entries : IsTrue (list_all (all_known s.limits.vps) s.schedule)

@@ -167,7 +167,8 @@ fn star(word: &[u8]) -> Option<usize>
 /// An entry of a schedule of so many processors.
 #[tactic(auto, unfolding(crate::specs::Fields::entry))]
 pub fn entry(vps: u8, word: &[u8]) -> Result<Turns, Why>
-    ensures { Gives (λ x. x) result (entry vps word.now) }
+    ensures said { Gives (λ x. x) result (entry vps word.now) }
+    ensures known { IfOk result (λ t. t.vp.0 < vps) }
 {
     let (vp, count) = match star(word) {
         None => (numeral(word, 10, 39), Some(1)),

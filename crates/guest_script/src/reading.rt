@@ -1,9 +1,10 @@
 // What has been read so far, line by line.
-ghost use Rattle.std.specs.Prelude.{◌≡◌, IfOk};
+ghost use Rattle.std.specs.Prelude.{◌≡◌, IfOk, IsTrue};
 ghost use Rattle.std.specs.List.{list_all};
 ghost use Rattle.guest_script.specs.Lines.{words_of};
 ghost use Rattle.guest_script.specs.Fields.{entries};
 ghost use Rattle.guest_script.specs.Line.{Becomes, Collects, is_text, vsm_line, vps_line, pages_line, budget_line, started_line, mask_line, word_line, program_line, with_op, set_line, get_line, load_line, store_line, exec_line, spin_line, jump_line, jump_ne_line, schedule_line, end_line, after_words, after_line, is_masked, is_begun};
+ghost use Rattle.guest_script.specs.Schedules.{all_known};
 ghost use Rattle.guest_script.specs.Sound.{IsSound, script_of};
 ghost use Rattle.guest_script.specs.declared.reading.LineError.TheVariants.{Memory, Refused};
 
@@ -79,7 +80,8 @@ fn is_begun(vp: u8, level: u8, begun: &[(u8, u8)]) -> bool
 
 // All the words as entries.
 fn all_entries(alloc: Global, vps: u8, line: &[u8]) -> Result<Items<Turns>, LineError>
-    ensures { Collects result (entries vps (words_of line.now)) }
+    ensures said { Collects result (entries vps (words_of line.now)) }
+    ensures known { IfOk result (λ turns. IsTrue (all_known vps turns)) }
 {
     let mut turns = Items::new(alloc);
     let mut rest = line;
@@ -136,6 +138,7 @@ impl Reading {
         no_more(rest)?;
         let vps = vps as u8;
         self.programs = Programs::empty(alloc, vps)?;
+        self.schedule = Schedule::new(alloc);
         self.limits.vps = vps;
         self.started = vps;
         self.stage = Stage::Pages;
@@ -345,7 +348,7 @@ impl Reading {
         self.add(Op::JumpNe(name, value as u64, target as u64))
     }
 
-    #[tactic(auto, unfolding(crate::specs::Line::schedule_line))]
+    #[tactic(auto, unfolding(crate::specs::Line::schedule_line), using(crate::proofs::Known::known_line))]
     fn schedule_line(&mut self, alloc: Global, rest: &[u8]) -> Result<(), LineError>
         requires sound { IsSound self.old }
         ensures said { Becomes self.new result (schedule_line self.old (words_of rest.now)) }
