@@ -1,4 +1,5 @@
 pub mod Ends
 pub mod Entries
+pub mod Known
 pub mod Numerals
 pub mod Splits

@@ -52,11 +52,9 @@ abbrev pub is_target : Name → Bool
 is_target names.Rsp = true
 is_target name = is_general name
 
--- a register that set and get may name: not Cr0 while there is no paging, and never Rip or a register of level 1's
--- intercepts
+-- a register that set and get may name: never Rip or a register of level 1's intercepts
 abbrev pub is_named : Name → Bool
 is_named names.Rip = false
-is_named names.Cr0 = false
 is_named names.CrInterceptControl = false
 is_named names.CrInterceptCr0Mask = false
 is_named names.CrInterceptCr4Mask = false

@@ -21,6 +21,10 @@ all_keywords =
     words.Get ∷
     words.Load ∷
     words.Store ∷
+    words.Exec ∷
+    words.Spin ∷
+    words.Jump ∷
+    words.JumpNe ∷
     words.Schedule ∷
     words.End ∷ []
 
@@ -38,6 +42,10 @@ spelling words.Set = codes "set"
 spelling words.Get = codes "get"
 spelling words.Load = codes "load"
 spelling words.Store = codes "store"
+spelling words.Exec = codes "exec"
+spelling words.Spin = codes "spin"
+spelling words.Jump = codes "jump"
+spelling words.JumpNe = codes "jumpne"
 spelling words.Schedule = codes "schedule"
 spelling words.End = codes "end"
 
@@ -63,6 +71,10 @@ stands words.Set (stages.Program vp level) = true
 stands words.Get (stages.Program vp level) = true
 stands words.Load (stages.Program vp level) = true
 stands words.Store (stages.Program vp level) = true
+stands words.Exec (stages.Program vp level) = true
+stands words.Spin (stages.Program vp level) = true
+stands words.Jump (stages.Program vp level) = true
+stands words.JumpNe (stages.Program vp level) = true
 stands words.Schedule stages.Memory = true
 stands words.Schedule (stages.Program vp level) = true
 stands words.Schedule stages.Schedule = true

@@ -45,12 +45,12 @@ vsm_line r ws = do
   end ← no_more version.1
   Ok (record r { stage = stages.Vps })
 
--- vps N
+-- vps N, with which programs and schedule begin anew
 unfoldable pub vps_line : Reading → Words → Result Reading Why
 vps_line r ws = do
   n ← number 1 (most_vps + 1) ws
   end ← no_more n.1
-  Ok (record r { stage = stages.Pages; limits = record r.limits { vps = n.0 }; started = 1; programs = nothings n.0 })
+  Ok (record r { stage = stages.Pages; limits = record r.limits { vps = n.0 }; started = n.0; programs = nothings n.0; schedule = [] })
 
 -- pages N
 unfoldable pub pages_line : Reading → Words → Result Reading Why
@@ -66,10 +66,10 @@ budget_line r ws = do
   end ← no_more n.1
   Ok (record r { stage = stages.Started; limits = record r.limits { budget = n.0 } })
 
--- started N
+-- started N, where N is the number of processors
 unfoldable pub started_line : Reading → Words → Result Reading Why
 started_line r ws = do
-  n ← number 1 (r.limits.vps + 1) ws
+  n ← number r.limits.vps (r.limits.vps + 1) ws
   end ← no_more n.1
   Ok (record r { stage = stages.Memory; started = n.0 })
 
@@ -148,6 +148,37 @@ store_line r ws = do
   end ← no_more value.1
   with_op r (ops.Store (record { 0 = address.0 }) value.0)
 
+-- exec GVA
+unfoldable pub exec_line : Reading → Words → Result Reading Why
+exec_line r ws = do
+  address ← number 0 (2 ^ 64) ws
+  end ← no_more address.1
+  with_op r (ops.Exec (record { 0 = address.0 }))
+
+-- spin GVA V
+unfoldable pub spin_line : Reading → Words → Result Reading Why
+spin_line r ws = do
+  address ← number 0 (2 ^ 64) ws
+  value ← number 0 (2 ^ 64) address.1
+  end ← no_more value.1
+  with_op r (ops.Spin (record { 0 = address.0 }) value.0)
+
+-- jump N
+unfoldable pub jump_line : Reading → Words → Result Reading Why
+jump_line r ws = do
+  target ← number 0 (2 ^ 64) ws
+  end ← no_more target.1
+  with_op r (ops.Jump target.0)
+
+-- jumpne REG V N
+unfoldable pub jump_ne_line : Reading → Words → Result Reading Why
+jump_ne_line r ws = do
+  name ← register ws
+  value ← number 0 (2 ^ 64) name.1
+  target ← number 0 (2 ^ 64) value.1
+  end ← no_more target.1
+  with_op r (ops.JumpNe name.0 value.0 target.0)
+
 -- all the words as entries, of which there is one at least
 abbrev some_entries : ℕ → Words → Result (List Turns) Why
 some_entries vps [] = Err MissingWord
@@ -179,6 +210,10 @@ after_words r words.Set ws = set_line r ws
 after_words r words.Get ws = get_line r ws
 after_words r words.Load ws = load_line r ws
 after_words r words.Store ws = store_line r ws
+after_words r words.Exec ws = exec_line r ws
+after_words r words.Spin ws = spin_line r ws
+after_words r words.Jump ws = jump_line r ws
+after_words r words.JumpNe ws = jump_ne_line r ws
 after_words r words.Schedule ws = schedule_line r ws
 after_words r words.End ws = end_line r ws
 

@@ -47,13 +47,12 @@ fn is_target(name: Name) -> bool
     }
 }
 
-// Whether `set` and `get` may name it. Not Cr0 while there is no paging.
+// Whether `set` and `get` may name it.
 fn is_named(name: Name) -> bool
     ensures { result ≡ is_named name }
 {
     match name {
         Name::Rip
-        | Name::Cr0
         | Name::CrInterceptControl
         | Name::CrInterceptCr0Mask
         | Name::CrInterceptCr4Mask => false,
@@ -168,7 +167,8 @@ fn star(word: &[u8]) -> Option<usize>
 /// An entry of a schedule of so many processors.
 #[tactic(auto, unfolding(crate::specs::Fields::entry))]
 pub fn entry(vps: u8, word: &[u8]) -> Result<Turns, Why>
-    ensures { Gives (λ x. x) result (entry vps word.now) }
+    ensures said { Gives (λ x. x) result (entry vps word.now) }
+    ensures known { IfOk result (λ t. t.vp.0 < vps) }
 {
     let (vp, count) = match star(word) {
         None => (numeral(word, 10, 39), Some(1)),

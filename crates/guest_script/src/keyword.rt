@@ -17,6 +17,10 @@ pub enum Keyword {
     Get,
     Load,
     Store,
+    Exec,
+    Spin,
+    Jump,
+    JumpNe,
     Schedule,
     End,
 }
@@ -36,7 +40,7 @@ pub enum Stage {
     Done,
 }
 
-const ALL: [Keyword; 14] = [
+const ALL: [Keyword; 18] = [
     Keyword::Vsm,
     Keyword::Vps,
     Keyword::Pages,
@@ -49,6 +53,10 @@ const ALL: [Keyword; 14] = [
     Keyword::Get,
     Keyword::Load,
     Keyword::Store,
+    Keyword::Exec,
+    Keyword::Spin,
+    Keyword::Jump,
+    Keyword::JumpNe,
     Keyword::Schedule,
     Keyword::End,
 ];
@@ -71,6 +79,10 @@ impl Keyword {
             Keyword::Get => b"get",
             Keyword::Load => b"load",
             Keyword::Store => b"store",
+            Keyword::Exec => b"exec",
+            Keyword::Spin => b"spin",
+            Keyword::Jump => b"jump",
+            Keyword::JumpNe => b"jumpne",
             Keyword::Schedule => b"schedule",
             Keyword::End => b"end",
         }
@@ -108,9 +120,14 @@ pub fn stands(keyword: Keyword, stage: Stage) -> bool
         Keyword::Started => matches!(stage, Stage::Started),
         Keyword::Mask | Keyword::Word => matches!(stage, Stage::Memory),
         Keyword::Program => matches!(stage, Stage::Memory | Stage::Program(_, _)),
-        Keyword::Set | Keyword::Get | Keyword::Load | Keyword::Store => {
-            matches!(stage, Stage::Program(_, _))
-        }
+        Keyword::Set
+        | Keyword::Get
+        | Keyword::Load
+        | Keyword::Store
+        | Keyword::Exec
+        | Keyword::Spin
+        | Keyword::Jump
+        | Keyword::JumpNe => matches!(stage, Stage::Program(_, _)),
         Keyword::Schedule | Keyword::End => {
             matches!(
                 stage,

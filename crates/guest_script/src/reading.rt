@@ -1,9 +1,10 @@
 // What has been read so far, line by line.
-ghost use Rattle.std.specs.Prelude.{◌≡◌, IfOk};
+ghost use Rattle.std.specs.Prelude.{◌≡◌, IfOk, IsTrue};
 ghost use Rattle.std.specs.List.{list_all};
 ghost use Rattle.guest_script.specs.Lines.{words_of};
 ghost use Rattle.guest_script.specs.Fields.{entries};
-ghost use Rattle.guest_script.specs.Line.{Becomes, Collects, is_text, vsm_line, vps_line, pages_line, budget_line, started_line, mask_line, word_line, program_line, with_op, set_line, get_line, load_line, store_line, schedule_line, end_line, after_words, after_line, is_masked, is_begun};
+ghost use Rattle.guest_script.specs.Line.{Becomes, Collects, is_text, vsm_line, vps_line, pages_line, budget_line, started_line, mask_line, word_line, program_line, with_op, set_line, get_line, load_line, store_line, exec_line, spin_line, jump_line, jump_ne_line, schedule_line, end_line, after_words, after_line, is_masked, is_begun};
+ghost use Rattle.guest_script.specs.Schedules.{all_known};
 ghost use Rattle.guest_script.specs.Sound.{IsSound, script_of};
 ghost use Rattle.guest_script.specs.declared.reading.LineError.TheVariants.{Memory, Refused};
 
@@ -19,7 +20,7 @@ use vsm_base::{Gva, Items, Limits, Mask, Page};
 use vsm_core::Op;
 
 // How many processors and levels a script may have.
-const MOST_VPS: u128 = 1;
+const MOST_VPS: u128 = 8;
 
 const MOST_LEVELS: u128 = 1;
 
@@ -79,7 +80,8 @@ fn is_begun(vp: u8, level: u8, begun: &[(u8, u8)]) -> bool
 
 // All the words as entries.
 fn all_entries(alloc: Global, vps: u8, line: &[u8]) -> Result<Items<Turns>, LineError>
-    ensures { Collects result (entries vps (words_of line.now)) }
+    ensures said { Collects result (entries vps (words_of line.now)) }
+    ensures known { IfOk result (λ turns. IsTrue (all_known vps turns)) }
 {
     let mut turns = Items::new(alloc);
     let mut rest = line;
@@ -136,8 +138,9 @@ impl Reading {
         no_more(rest)?;
         let vps = vps as u8;
         self.programs = Programs::empty(alloc, vps)?;
+        self.schedule = Schedule::new(alloc);
         self.limits.vps = vps;
-        self.started = 1;
+        self.started = vps;
         self.stage = Stage::Pages;
         Ok(())
     }
@@ -174,7 +177,8 @@ impl Reading {
         ensures said { Becomes self.new result (started_line self.old (words_of rest.now)) }
         ensures sound { IsSound self.new }
     {
-        let (started, rest) = number(rest, 1, u128::from(self.limits.vps) + 1)?;
+        let vps = u128::from(self.limits.vps);
+        let (started, rest) = number(rest, vps, vps + 1)?;
         no_more(rest)?;
         self.started = started as u8;
         self.stage = Stage::Memory;
@@ -297,7 +301,54 @@ impl Reading {
         self.add(Op::Store(Gva(address as u64), value))
     }
 
-    #[tactic(auto, unfolding(crate::specs::Line::schedule_line))]
+    #[tactic(auto, unfolding(crate::specs::Line::exec_line))]
+    fn exec_line(&mut self, rest: &[u8]) -> Result<(), LineError>
+        requires sound { IsSound self.old }
+        ensures said { Becomes self.new result (exec_line self.old (words_of rest.now)) }
+        ensures sound { IsSound self.new }
+    {
+        let (address, rest) = number(rest, 0, 1 << 64)?;
+        no_more(rest)?;
+        self.add(Op::Exec(Gva(address as u64)))
+    }
+
+    #[tactic(auto, unfolding(crate::specs::Line::spin_line))]
+    fn spin_line(&mut self, rest: &[u8]) -> Result<(), LineError>
+        requires sound { IsSound self.old }
+        ensures said { Becomes self.new result (spin_line self.old (words_of rest.now)) }
+        ensures sound { IsSound self.new }
+    {
+        let (address, rest) = number(rest, 0, 1 << 64)?;
+        let (value, rest) = number(rest, 0, 1 << 64)?;
+        no_more(rest)?;
+        self.add(Op::Spin(Gva(address as u64), value as u64))
+    }
+
+    #[tactic(auto, unfolding(crate::specs::Line::jump_line))]
+    fn jump_line(&mut self, rest: &[u8]) -> Result<(), LineError>
+        requires sound { IsSound self.old }
+        ensures said { Becomes self.new result (jump_line self.old (words_of rest.now)) }
+        ensures sound { IsSound self.new }
+    {
+        let (target, rest) = number(rest, 0, 1 << 64)?;
+        no_more(rest)?;
+        self.add(Op::Jump(target as u64))
+    }
+
+    #[tactic(auto, unfolding(crate::specs::Line::jump_ne_line))]
+    fn jump_ne_line(&mut self, rest: &[u8]) -> Result<(), LineError>
+        requires sound { IsSound self.old }
+        ensures said { Becomes self.new result (jump_ne_line self.old (words_of rest.now)) }
+        ensures sound { IsSound self.new }
+    {
+        let (name, rest) = register(rest)?;
+        let (value, rest) = number(rest, 0, 1 << 64)?;
+        let (target, rest) = number(rest, 0, 1 << 64)?;
+        no_more(rest)?;
+        self.add(Op::JumpNe(name, value as u64, target as u64))
+    }
+
+    #[tactic(auto, unfolding(crate::specs::Line::schedule_line), using(crate::proofs::Known::known_line))]
     fn schedule_line(&mut self, alloc: Global, rest: &[u8]) -> Result<(), LineError>
         requires sound { IsSound self.old }
         ensures said { Becomes self.new result (schedule_line self.old (words_of rest.now)) }
@@ -350,6 +401,10 @@ impl Reading {
             Keyword::Get => self.get_line(rest),
             Keyword::Load => self.load_line(rest),
             Keyword::Store => self.store_line(rest),
+            Keyword::Exec => self.exec_line(rest),
+            Keyword::Spin => self.spin_line(rest),
+            Keyword::Jump => self.jump_line(rest),
+            Keyword::JumpNe => self.jump_ne_line(rest),
             Keyword::Schedule => self.schedule_line(alloc, rest),
             Keyword::End => self.end_line(rest),
         }

@@ -1,5 +1,9 @@
 // What the reader takes and what it refuses.
+ghost use Rattle.std.specs.Prelude.{IfOk};
+ghost use Rattle.guest_script.specs.Sound.{IsSound};
+
 use super::*;
+use crate::reading::{LineError, Reading};
 use std::alloc::{AllocError, Global};
 use std::test::Fail;
 use vsm_base::{Gva, Limits, Mask, Name, Page, VpIndex};
@@ -29,6 +33,25 @@ fn with_operation(alloc: Global, operation: &[u8]) -> Result<Vec<u8>, AllocError
     text.extend_from_slice(operation)?;
     text.extend_from_slice(b"\nend\n")?;
     Ok(text)
+}
+
+// Two processors, the second of which has its program begun.
+fn in_program(alloc: Global) -> Result<Reading, LineError>
+    ensures { IfOk result IsSound }
+{
+    let mut reading = Reading::new(alloc)?;
+    reading.line(alloc, b"vsm 1")?;
+    reading.line(alloc, b"vps 2")?;
+    reading.line(alloc, b"pages 2")?;
+    reading.line(alloc, b"budget 10")?;
+    reading.line(alloc, b"started 2")?;
+    reading.line(alloc, b"program 1 0")?;
+    Ok(reading)
+}
+
+fn next_in_program(alloc: Global, line: &[u8]) -> Result<(), LineError> {
+    let mut reading = in_program(alloc)?;
+    reading.line(alloc, line)
 }
 
 fn is_refused(alloc: Global, bytes: &[u8]) -> bool {
@@ -94,9 +117,104 @@ fn operations_on_registers_are_read_into_a_program(rt: HostRuntime) -> Result<()
 }
 
 #[test]
+fn jumps_spins_and_executions_are_read_into_a_program(rt: HostRuntime) -> Result<(), Fail> {
+    let body: &[u8] =
+        b"program 0 0\nexec 0x1003\nspin 0x1000 18446744073709551615\nspin 7 0\njump 0\njump 0xffffffffffffffff\njumpne Rsp 1 2\njumpne R15 0x0A 0\nset Cr0 0x80000001\nget Cr0\nend\n";
+    let script = read(rt.alloc(), &with_head(rt.alloc(), body)?)?;
+    let program = &script.programs.as_slice()[0];
+    let ops = [
+        Op::Exec(Gva(0x1003)),
+        Op::Spin(Gva(0x1000), u64::MAX),
+        Op::Spin(Gva(7), 0),
+        Op::Jump(0),
+        Op::Jump(u64::MAX),
+        Op::JumpNe(Name::Rsp, 1, 2),
+        Op::JumpNe(Name::R15, 10, 0),
+        Op::Set(Name::Cr0, 0x8000_0001),
+        Op::Get(Name::Cr0),
+    ];
+    assert_eq!(rt; program.zero.as_slice(), ops.as_slice());
+    Ok(())
+}
+
+#[test]
+fn eight_processors_have_each_its_program(rt: HostRuntime) -> Result<(), Fail> {
+    let text: &[u8] = b"vsm 1\nvps 8\npages 1\nbudget 1\nstarted 8\n\
+program 7 0\njump 17\nprogram 0 0\njump 10\nprogram 1 0\njump 11\nprogram 2 0\njump 12\n\
+program 3 0\njump 13\nprogram 4 0\njump 14\nprogram 5 0\njump 15\nprogram 6 0\njump 16\n\
+schedule 7 0*3\nschedule 6*100\nend\n";
+    let script = read(rt.alloc(), text)?;
+    assert_eq!(rt; script.limits.vps, 8);
+    assert_eq!(rt; script.started, 8);
+    assert_eq!(rt; script.programs.len(), 8);
+    for (vp, program) in script.programs.as_slice().iter().enumerate() {
+        let ops = [Op::Jump(10 + vp as u64)];
+        assert_eq!(rt; program.zero.as_slice(), ops.as_slice(), "at {vp}");
+        assert_eq!(rt; program.one.len(), 0);
+    }
+    let turns = [(7, 1), (0, 3), (6, 100)].map(|(vp, count)| Turns {
+        vp: VpIndex(vp),
+        single: false,
+        count,
+    });
+    assert_eq!(rt; script.schedule.len(), 2);
+    assert_eq!(rt; script.schedule.as_slice()[0].as_slice(), &turns[..2]);
+    assert_eq!(rt; script.schedule.as_slice()[1].as_slice(), &turns[2..]);
+    Ok(())
+}
+
+#[test]
+fn a_line_in_a_program_is_refused_with_its_cause(rt: HostRuntime) -> Result<(), Fail> {
+    let lines: [(&[u8], Why); 34] = [
+        (b"exec", Why::MissingWord),
+        (b"exec Rax", Why::BadNumber),
+        (b"exec 18446744073709551616", Why::OutOfRange),
+        (b"exec 8 0", Why::ExtraWord),
+        (b"spin", Why::MissingWord),
+        (b"spin 8", Why::MissingWord),
+        (b"spin Rax 8", Why::BadNumber),
+        (b"spin 8 Rax", Why::BadNumber),
+        (b"spin 18446744073709551616 Rax", Why::OutOfRange),
+        (b"spin 8 18446744073709551616", Why::OutOfRange),
+        (b"spin 8 0 0", Why::ExtraWord),
+        (b"jump", Why::MissingWord),
+        (b"jump Rax", Why::BadNumber),
+        (b"jump 18446744073709551616", Why::OutOfRange),
+        (b"jump 0 0", Why::ExtraWord),
+        (b"jumpne", Why::MissingWord),
+        (b"jumpne Rax", Why::MissingWord),
+        (b"jumpne Rax 0", Why::MissingWord),
+        (b"jumpne 0 Rax 0", Why::BadName),
+        (b"jumpne Rip 0 0", Why::BadName),
+        (b"jumpne Cr0 0 0", Why::BadName),
+        (b"jumpne Rax Rbx 0", Why::BadNumber),
+        (b"jumpne Rax 0 Rbx", Why::BadNumber),
+        (b"jumpne Rax 18446744073709551616 0", Why::OutOfRange),
+        (b"jumpne Rax 0 18446744073709551616", Why::OutOfRange),
+        (b"jumpne Rax 0 0 0", Why::ExtraWord),
+        (b"jumpeq Rax 0 0", Why::UnknownWord),
+        (b"set Rip 0", Why::BadName),
+        (b"program 1 0", Why::Twice),
+        (b"program 2 0", Why::OutOfRange),
+        (b"program 0 1", Why::OutOfRange),
+        (b"schedule 0 1*2 2", Why::OutOfRange),
+        (b"schedule 0 1! 1", Why::BadEntry),
+        (b"vps 2", Why::OutOfOrder),
+    ];
+    for (line, why) in lines {
+        let answer = next_in_program(rt.alloc(), line);
+        assert_eq!(rt; answer, Err(LineError::Refused(why)));
+    }
+    let good: [&[u8]; 3] = [b"jumpne Rsp 0 0", b"program 0 0", b"schedule 0 1*2 1"];
+    for line in good {
+        assert_eq!(rt; next_in_program(rt.alloc(), line), Ok(()));
+    }
+    Ok(())
+}
+
+#[test]
 fn an_operation_is_refused_for_each_cause(rt: HostRuntime) -> Result<(), Fail> {
-    let operations: [&[u8]; 20] = [
-        b"set Cr0 1",
+    let operations: [&[u8]; 18] = [
         b"set Rip 1",
         b"set CrInterceptControl 1",
         b"set Nope 1",
@@ -107,7 +225,6 @@ fn an_operation_is_refused_for_each_cause(rt: HostRuntime) -> Result<(), Fail> {
         b"set Rax 1 2",
         b"set Rax 340282366920938463463374607431768211456",
         b"get",
-        b"get Cr0",
         b"get Rip",
         b"get CrInterceptCr4Mask",
         b"get Rax 1",
@@ -128,7 +245,7 @@ fn an_operation_is_refused_for_each_cause(rt: HostRuntime) -> Result<(), Fail> {
 
 #[test]
 fn a_script_is_refused_before_its_memory(rt: HostRuntime) -> Result<(), Fail> {
-    let scripts: [&[u8]; 14] = [
+    let scripts: [&[u8]; 17] = [
         b"",
         b"\n",
         b"vsm 1",
@@ -139,10 +256,13 @@ fn a_script_is_refused_before_its_memory(rt: HostRuntime) -> Result<(), Fail> {
         b"vps 1\n",
         b"vsm one\n",
         b"vsm 1\nvps 0\n",
-        b"vsm 1\nvps 2\n",
+        b"vsm 1\nvps 9\n",
         b"vsm 1\nvps 1\npages 257\n",
         b"vsm 1\nvps 1\npages 1\nbudget 10001\n",
-        b"vsm 1\nvps 1\npages 1\nbudget 1\nstarted 2\n",
+        b"vsm 1\nvps 1\npages 1\nbudget 1\nstarted 2\nend\n",
+        b"vsm 1\nvps 2\npages 1\nbudget 1\nstarted 0\nend\n",
+        b"vsm 1\nvps 2\npages 1\nbudget 1\nstarted 1\nend\n",
+        b"vsm 1\nvps 2\npages 1\nbudget 1\nstarted 3\nend\n",
     ];
     for bytes in scripts {
         assert!(rt; is_refused(rt.alloc(), bytes));
@@ -152,13 +272,17 @@ fn a_script_is_refused_before_its_memory(rt: HostRuntime) -> Result<(), Fail> {
 
 #[test]
 fn a_body_is_refused_for_each_cause(rt: HostRuntime) -> Result<(), Fail> {
-    let bodies: [&[u8]; 31] = [
+    let bodies: [&[u8]; 35] = [
         b"",
         b"print\nend\n",
         b"mask 0 1\n\nend\n",
         b"started 1\nend\n",
         b"load Rax 0\nend\n",
         b"set Rax 0\nend\n",
+        b"exec 0\nend\n",
+        b"spin 0 0\nend\n",
+        b"schedule 0\njump 0\nend\n",
+        b"schedule 0\njumpne Rax 0 0\nend\n",
         b"schedule 0\nget Rax\nend\n",
         b"schedule 0\nmask 0 1\nend\n",
         b"end\nend\n",
