@@ -1,8 +1,14 @@
-//! The ways of processors and of the partition to the shared words.
+//! The ways of processors and of the partition to the shared words, and shared words that lie in plain memory.
 #![tactic(auto)]
 
+mod layout;
+mod plain;
+mod plain_port;
 mod port;
 mod steward;
 
+pub use layout::Layout;
+pub use plain::PlainFabric;
+pub use plain_port::PlainPort;
 pub use port::Port;
 pub use steward::Steward;
