@@ -4,7 +4,9 @@ use Rattle.vsm_base.specs.Masks.{is_mask}
 use Rattle.vsm_base.specs.declared.places.Limits.{Limits}
 use Rattle.vsm_core.specs.declared.event.Phase.{Phase}
 use Rattle.vsm_core.specs.declared.event.Phase.TheVariants.{Idle}
+use Rattle.vsm_core.specs.declared.event.Event.{Event}
 use Rattle.vsm_core.specs.Seat.{Fabric}
+use Rattle.vsm_core.specs.Stand.{fabric_with}
 use Rattle.vsm_core.specs.Words.{generation_at, word_count}
 
 -- a fabric of these limits
@@ -49,3 +51,7 @@ with_words plain words = record { limits = plain.limits; fabric = record plain.f
 
 abbrev pub with_phases : Plain → List Phase → Plain
 with_phases plain phases = record { limits = plain.limits; fabric = record plain.fabric { phases = phases } }
+
+-- the fabric after one of the partition's steps
+abbrev pub with_event : Plain → Event → Plain
+with_event plain e = record { limits = plain.limits; fabric = fabric_with plain.limits plain.fabric e }

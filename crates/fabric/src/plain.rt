@@ -1,14 +1,16 @@
 // The shared words in plain memory.
-ghost use Rattle.std.specs.Prelude.{◌≡◌, ◌*◌, ◌<◌, ◌≤◌, IfOk, OnOk, None, Some, [], length, get_or, slice_index, slice_set};
-ghost use Rattle.vsm_core.specs.Words.{word_count};
-ghost use Rattle.fabric.specs.Plain.{HasMasks, IsWhole, opening_plain, opening_words, with_phases, with_words};
-ghost use Rattle.fabric.specs.Seats.{plain_seat};
+ghost use Rattle.std.specs.Prelude.{◌≡◌, ◌*◌, ◌+◌, ◌-◌, ◌^◌, ◌==◌, not, ◌<◌, ◌≤◌, IfOk, OnOk, None, Some, [], length, get_or, slice_index, slice_set};
+ghost use Rattle.vsm_core.specs.Words.{busy_at, word_count};
+ghost use Rattle.fabric.specs.Plain.{HasMasks, IsWhole, opening_plain, opening_words, with_event, with_phases, with_words};
+ghost use Rattle.fabric.specs.Seats.{plain_seat, plain_stand};
 
+use crate::layout::busy_place;
 use crate::plain_port::PlainPort;
+use crate::plain_steward::PlainSteward;
 use std::alloc::{AllocError, Global};
 use std::marker::Model;
 use vsm_base::{Limits, Mask, Memory, Page, VpIndex};
-use vsm_core::Phase;
+use vsm_core::{Event, Phase};
 
 /// The shared words in plain memory, with each processor's phase and with how many processors were cleared since the
 /// last turn. This project's own.
@@ -107,6 +109,15 @@ impl PlainFabric {
         PlainPort::new(self, vp)
     }
 
+    /// The way of the partition to the words, before its first step through it.
+    pub fn steward(&mut self) -> PlainSteward<'_>
+        ensures stand { plain_stand result ≡ record { name = self.entry.ghost_name; limits = self.old.limits; turns = self.old.fabric.turns; cleared = self.old.fabric.cleared; last = None; steps = 0; told = Some self.old.fabric } }
+        ensures whole { IsWhole self.old }
+    {
+        prove!(self.cleared <= self.limits.vps);
+        PlainSteward::new(self)
+    }
+
     pub(crate) fn limits(&self) -> Limits
         ensures limits { result ≡ self.now.limits }
         ensures whole { IsWhole self.now }
@@ -148,5 +159,44 @@ impl PlainFabric {
         ensures phase { get_or self.new.fabric.phases vp.0 Phase.Idle ≡ phase }
     {
         self.phases[vp.0 as usize] = phase;
+    }
+
+    /// Sets the mask of a page, and answers what it was.
+    pub(crate) fn set_mask(&mut self, page: Page, mask: Mask) -> Mask
+        requires { page.0 < self.old.limits.pages }
+        ensures fabric { self.new ≡ with_event self.old (Event.Ask page mask) }
+        ensures old { result ≡ slice_index self.old.fabric.words page.0 }
+    {
+        let old = self.mask(page);
+        self.words[page.0 as usize] = mask.bits() as u64;
+        old
+    }
+
+    /// Adds one to the generation, and answers the new one: no processor is then cleared.
+    pub(crate) fn turn(&mut self) -> u64
+        requires { self.old.fabric.turns < 2 ^ 64 - 1 }
+        ensures fabric { self.new ≡ with_event self.old (Event.Turn result) }
+        ensures round { result ≡ self.old.fabric.turns + 1 }
+    {
+        let at = self.limits.pages as usize;
+        let round = self.words[at] + 1;
+        self.words[at] = round;
+        self.cleared = 0;
+        round
+    }
+
+    /// Whether a processor's busy word is 0: then one more is cleared.
+    pub(crate) fn clear(&mut self, vp: VpIndex) -> bool
+        requires next { vp.0 ≡ self.old.fabric.cleared }
+        requires there { vp.0 < self.old.limits.vps }
+        ensures fabric { self.new ≡ with_event self.old (Event.Clear vp (not result)) }
+        ensures free { result ≡ slice_index self.old.fabric.words (busy_at self.old.limits vp.0) == 0 }
+    {
+        let at = busy_place(&self.limits, vp);
+        let free = self.words[at] == 0;
+        if free {
+            self.cleared += 1;
+        }
+        free
     }
 }

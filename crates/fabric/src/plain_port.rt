@@ -1,7 +1,7 @@
 // A processor's way to a plain fabric.
 ghost use Rattle.std.specs.Prelude.{◌≡◌, None, Some, get_or};
-ghost use Rattle.vsm_core.specs.Seat.{counted};
 
+use crate::count::one_more;
 use crate::layout::{busy_place, memory_word, posted_word};
 use crate::plain::PlainFabric;
 use crate::port::Port;
@@ -15,14 +15,6 @@ pub struct PlainPort<'a> {
     vp: VpIndex,
     last: Option<Event>,
     steps: u64,
-}
-
-/// A count that stays at its last value.
-#[tactic(auto, unfolding(vsm_core::specs::Seat::counted))]
-pub(crate) fn one_more(steps: u64) -> u64
-    ensures { result ≡ counted steps }
-{
-    if steps < u64::MAX { steps + 1 } else { steps }
 }
 
 impl PlainPort<'_> {
