@@ -15,3 +15,6 @@ pub use plain_port::PlainPort;
 pub use plain_steward::PlainSteward;
 pub use port::Port;
 pub use steward::Steward;
+
+#[cfg(test)]
+mod tests;
