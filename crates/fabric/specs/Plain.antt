@@ -1,12 +1,12 @@
 -- The shared words in plain memory: what contracts see of them, what is always so, and how they begin.
-use Rattle.std.specs.Prelude.{◌≡◌, ℕ, ◌+◌, ◌*◌, ◌<◌, ◌≤◌, IsTrue, List, length, slice_index, ◌++◌, replicate}
+use Rattle.std.specs.Prelude.{◌≡◌, ℕ, ◌+◌, ◌*◌, ◌<◌, ◌≤◌, IsTrue, Some, None, List, get_or, length, slice_index, ◌++◌, replicate}
 use Rattle.vsm_base.specs.Masks.{is_mask}
 use Rattle.vsm_base.specs.declared.places.Limits.{Limits}
 use Rattle.vsm_core.specs.declared.event.Phase.{Phase}
 use Rattle.vsm_core.specs.declared.event.Phase.TheVariants.{Idle}
 use Rattle.vsm_core.specs.declared.event.Event.{Event}
-use Rattle.vsm_core.specs.Seat.{Fabric}
-use Rattle.vsm_core.specs.Stand.{fabric_with}
+use Rattle.vsm_core.specs.Seat.{Fabric, Seat}
+use Rattle.vsm_core.specs.Stand.{Stand, fabric_with}
 use Rattle.vsm_core.specs.Words.{generation_at, word_count}
 
 -- a fabric of these limits
@@ -51,6 +51,30 @@ with_words plain words = record { limits = plain.limits; fabric = record plain.f
 
 abbrev pub with_phases : Plain → List Phase → Plain
 with_phases plain phases = record { limits = plain.limits; fabric = record plain.fabric { phases = phases } }
+
+-- a way of this processor to the fabric, before its first step
+abbrev pub first_seat : ℕ → ℕ → Plain → Seat
+first_seat name vp plain = record {
+  name = name;
+  vp = vp;
+  limits = plain.limits;
+  phase = get_or plain.fabric.phases vp Idle;
+  last = None;
+  steps = 0;
+  told = Some plain.fabric;
+}
+
+-- a way of the partition to the fabric, before its first step
+abbrev pub first_stand : ℕ → Plain → Stand
+first_stand name plain = record {
+  name = name;
+  limits = plain.limits;
+  turns = plain.fabric.turns;
+  cleared = plain.fabric.cleared;
+  last = None;
+  steps = 0;
+  told = Some plain.fabric;
+}
 
 -- the fabric after one of the partition's steps
 abbrev pub with_event : Plain → Event → Plain

@@ -1,7 +1,7 @@
 // The shared words in plain memory.
 ghost use Rattle.std.specs.Prelude.{◌≡◌, ◌*◌, ◌+◌, ◌-◌, ◌^◌, ◌==◌, not, ◌<◌, ◌≤◌, IfOk, OnOk, None, Some, [], length, get_or, slice_index, slice_set};
 ghost use Rattle.vsm_core.specs.Words.{busy_at, word_count};
-ghost use Rattle.fabric.specs.Plain.{HasMasks, IsWhole, opening_plain, opening_words, with_event, with_phases, with_words};
+ghost use Rattle.fabric.specs.Plain.{HasMasks, IsWhole, first_seat, first_stand, opening_plain, opening_words, with_event, with_phases, with_words};
 ghost use Rattle.fabric.specs.Seats.{plain_seat, plain_stand};
 
 use crate::layout::busy_place;
@@ -102,7 +102,7 @@ impl PlainFabric {
     /// The way of this processor to the words, before its first step through it. It needs a processor that there is.
     pub fn port(&mut self, vp: VpIndex) -> PlainPort<'_>
         requires { vp.0 < self.old.limits.vps }
-        ensures seat { plain_seat result ≡ record { name = self.entry.ghost_name; vp = vp.0; limits = self.old.limits; phase = get_or self.old.fabric.phases vp.0 Phase.Idle; last = None; steps = 0; told = Some self.old.fabric } }
+        ensures seat { plain_seat result ≡ first_seat self.entry.ghost_name vp.0 self.old }
         ensures whole { IsWhole self.old }
     {
         prove!(vp.0 < self.limits.vps);
@@ -111,7 +111,7 @@ impl PlainFabric {
 
     /// The way of the partition to the words, before its first step through it.
     pub fn steward(&mut self) -> PlainSteward<'_>
-        ensures stand { plain_stand result ≡ record { name = self.entry.ghost_name; limits = self.old.limits; turns = self.old.fabric.turns; cleared = self.old.fabric.cleared; last = None; steps = 0; told = Some self.old.fabric } }
+        ensures stand { plain_stand result ≡ first_stand self.entry.ghost_name self.old }
         ensures whole { IsWhole self.old }
     {
         prove!(self.cleared <= self.limits.vps);

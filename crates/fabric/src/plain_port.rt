@@ -18,10 +18,11 @@ pub struct PlainPort<'a> {
 }
 
 impl PlainPort<'_> {
+    ghost use Rattle.fabric.specs.Plain.{first_seat};
     ghost use Rattle.fabric.specs.Seats.{plain_seat};
 
     pub(crate) fn new(fabric: &mut PlainFabric, vp: VpIndex) -> PlainPort<'_>
-        ensures { plain_seat result ≡ record { name = fabric.entry.ghost_name; vp = vp.0; limits = fabric.old.limits; phase = get_or fabric.old.fabric.phases vp.0 Phase.Idle; last = None; steps = 0; told = Some fabric.old.fabric } }
+        ensures { plain_seat result ≡ first_seat fabric.entry.ghost_name vp.0 fabric.old }
     {
         PlainPort {
             fabric,

@@ -17,10 +17,11 @@ pub struct PlainSteward<'a> {
 }
 
 impl PlainSteward<'_> {
+    ghost use Rattle.fabric.specs.Plain.{first_stand};
     ghost use Rattle.fabric.specs.Seats.{plain_stand};
 
     pub(crate) fn new(fabric: &mut PlainFabric) -> PlainSteward<'_>
-        ensures { plain_stand result ≡ record { name = fabric.entry.ghost_name; limits = fabric.old.limits; turns = fabric.old.fabric.turns; cleared = fabric.old.fabric.cleared; last = None; steps = 0; told = Some fabric.old.fabric } }
+        ensures { plain_stand result ≡ first_stand fabric.entry.ghost_name fabric.old }
     {
         PlainSteward {
             fabric,
