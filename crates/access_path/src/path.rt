@@ -8,8 +8,9 @@ ghost use Rattle.access_path.specs.Rest.{Rest, Goes, Matches, Serves, goal_of};
 use crate::aim::Aim;
 use crate::place::{PathTurn, Place};
 use crate::steps::step;
-use crate::ways::{canonical, paging};
+use crate::ways::paging;
 use fabric::Port;
+use page_walk::Walk;
 use std::marker::Model;
 use vsm_core::{Event, GuestFault};
 
@@ -48,8 +49,8 @@ impl Path {
         if aim.aligned && aim.gva.0 % 8 != 0 {
             return Err(GuestFault::Align);
         }
-        if paging(aim.cr0) && !canonical(aim.gva.0) {
-            return Err(GuestFault::Noncanonical);
+        if paging(aim.cr0) {
+            Walk::start(aim.cr3, aim.gva, aim.access, aim.cpl)?;
         }
         Ok(Path {
             aim,

@@ -2,7 +2,7 @@
 ghost use Rattle.std.specs.Prelude.{◌≡◌, ℕ, List, [], true, false};
 ghost use Rattle.vsm_core.specs.Tree.{Tree, Asks};
 ghost use Rattle.vsm_core.specs.Access.{Decision, tables, at_table, at_page, from_check, query_of, by_mask, by_table_mask};
-ghost use Rattle.vsm_core.specs.Walk.{walk, Walked, is_paging, is_canonical};
+ghost use Rattle.vsm_core.specs.Walk.{Walked, is_paging};
 ghost use Rattle.vsm_core.specs.declared.event.Phase.TheVariants.{In};
 ghost use Rattle.page_walk.specs.Half.{Stands};
 ghost use Rattle.page_walk.specs.Told.{Tells, GoesOn, translation_of};
@@ -38,13 +38,6 @@ pub fn paging(cr0: u64) -> bool
     ensures { result ≡ is_paging cr0 }
 {
     cr0 / (1 << 31) % 2 == 1
-}
-
-pub fn canonical(gva: u64) -> bool
-    ensures { result ≡ is_canonical gva }
-{
-    let top = gva / (1 << 47);
-    top == 0 || top == (1 << 17) - 1
 }
 
 /// The generation is known.
