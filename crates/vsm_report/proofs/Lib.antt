@@ -1,4 +1,5 @@
 pub mod DigitSteps
+pub mod Example
 pub mod Gathering
 pub mod MaskTurns
 pub mod PageWords

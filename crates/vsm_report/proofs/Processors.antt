@@ -56,8 +56,10 @@ pub places-set : {X : Type 0} (P : ℕ → X → Type 0) (xs : List X) (i : ℕ)
 places-set P xs i y is all j x e = go (eqb_tells j i) where
   within : j < length xs
   within = subst (λ n. j < n) (length-set xs i y) (slice_get_within (slice_set xs i y) j x e)
+
   found : get_or (slice_set xs i y) j x ≡ x
   found = get_or_from_slice_get (slice_set xs i y) j x x e
+
   go : ((eqb j i ≡ true) × (j ≡ i)) ⊎ ((eqb j i ≡ false) × (j ≢ i)) → P j x
   go (inl here) =
       let same : y ≡ x = sym (get_or-set_at xs i j y x here.1 (subst (λ n. n < length xs) here.1 within)) ∙ found in
