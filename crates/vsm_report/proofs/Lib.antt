@@ -1,6 +1,8 @@
 pub mod DigitSteps
+pub mod Example
 pub mod Gathering
 pub mod MaskTurns
 pub mod PageWords
+pub mod Processors
 pub mod Spelling
 pub mod Stepping

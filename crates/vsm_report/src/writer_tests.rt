@@ -65,22 +65,44 @@ word 0:2 0x0123456789abcdef\n\
 word 1:3 0x0000000000000000\n\
 close\n";
 
+const EIGHT: &[u8] = b"vsm-report 1 trace\n\
+4.0 0 spin again page 0 mask 15 gen 0 value 0x0000000000000000\n\
+7.0 0 spin ok page 0 mask 15 gen 0 value 0x0000000000000001\n\
+0.0 0 store denied page 1 mask 1 gen 0 access write held\n\
+1.0 0 load fault align\n\
+2.0 0 jump ok\n\
+3.0 0 exec ok page 0 mask 15 gen 0\n\
+4.0 0 spin again page 0 mask 15 gen 0 value 0x0000000000000000\n\
+5.0 0 exec fault page\n\
+6.0 0 spin fault noncanonical\n\
+end 0 held\n\
+end 1 fault align\n\
+end 2 done\n\
+end 3 budget\n\
+end 4 spun\n\
+end 5 fault page\n\
+end 6 fault noncanonical\n\
+end 7 cut\n\
+mask 1 1\n\
+word 0:0 0x0000000000000001\n\
+word 0:1 0x0000000000000000\n\
+word 1:3 0x0000000000000000\n\
+close\n";
+
 // Two pages, the second of mask 3; the words 0:1 and 1:3 are given.
-fn script(alloc: Global, program: Program) -> Result<Script, AllocError> {
+fn script(alloc: Global, vps: u8, programs: Items<Program>) -> Result<Script, AllocError> {
     let mut masks = Items::new(alloc);
     masks.push((Page(1), Mask::of(3).unwrap()))?;
     let mut words = Items::new(alloc);
     words.push((Page(0), 1, 7))?;
     words.push((Page(1), 3, 9))?;
-    let mut programs = Items::new(alloc);
-    programs.push(program)?;
     Ok(Script {
         limits: Limits {
-            vps: 1,
+            vps,
             pages: 2,
             budget: 10,
         },
-        started: 1,
+        started: vps,
         masks,
         words,
         programs,
@@ -112,6 +134,36 @@ fn program(alloc: Global) -> Result<Program, AllocError> {
     })
 }
 
+fn one_program(alloc: Global) -> Result<Items<Program>, AllocError> {
+    let mut programs = Items::new(alloc);
+    programs.push(program(alloc)?)?;
+    Ok(programs)
+}
+
+// A program of level 0 alone, of this operation alone.
+fn add_program(alloc: Global, programs: &mut Items<Program>, op: Op) -> Result<(), AllocError> {
+    let zero = Items::from_vec(vec![in alloc; op]?);
+    let one = Items::new(alloc);
+    programs.push(Program { zero, one })
+}
+
+fn eight_programs(alloc: Global) -> Result<Items<Program>, AllocError> {
+    let mut programs = Items::new(alloc);
+    add_program(
+        alloc,
+        &mut programs,
+        Op::Store(Gva(4096), Operand::Number(5)),
+    )?;
+    add_program(alloc, &mut programs, Op::Load(Name::Rax, Gva(1)))?;
+    add_program(alloc, &mut programs, Op::Jump(1))?;
+    add_program(alloc, &mut programs, Op::Exec(Gva(0)))?;
+    add_program(alloc, &mut programs, Op::Spin(Gva(8), 1))?;
+    add_program(alloc, &mut programs, Op::Exec(Gva(0)))?;
+    add_program(alloc, &mut programs, Op::Spin(Gva(1 << 63), 1))?;
+    add_program(alloc, &mut programs, Op::Spin(Gva(0), 1))?;
+    Ok(programs)
+}
+
 fn report(
     alloc: Global,
     lines: Items<Line>,
@@ -130,11 +182,15 @@ fn report(
     }
 }
 
-fn text(alloc: Global, report: &Report) -> Result<Vec<u8>, AllocError> {
-    let script = script(alloc, program(alloc)?)?;
+fn text_of(alloc: Global, script: &Script, report: &Report) -> Result<Vec<u8>, AllocError> {
     let mut sink = MemSink::new(vec![in alloc; 0; 2048]?, Vec::new(alloc), 4096);
-    let _ = write(report, &script, &mut sink);
+    let _ = write(report, script, &mut sink);
     sink.taken().to_vec(alloc)
+}
+
+fn text(alloc: Global, report: &Report) -> Result<Vec<u8>, AllocError> {
+    let script = script(alloc, 1, one_program(alloc)?)?;
+    text_of(alloc, &script, report)
 }
 
 fn put<T: Drop>(items: &mut Items<T>, item: T) -> Result<(), AllocError> {
@@ -152,8 +208,14 @@ fn push(
     put(lines, *line)
 }
 
-// One mark more.
-fn add(lines: &mut Items<Line>, level: Vtl, rip: u64, what: &What) -> Result<(), AllocError> {
+// One mark of a processor more.
+fn add_of(
+    lines: &mut Items<Line>,
+    vp: u8,
+    level: Vtl,
+    rip: u64,
+    what: &What,
+) -> Result<(), AllocError> {
     let mark = Mark {
         level,
         rip,
@@ -161,8 +223,13 @@ fn add(lines: &mut Items<Line>, level: Vtl, rip: u64, what: &What) -> Result<(),
         first: 0,
         count: 0,
     };
-    let line = Line::Mark(VpIndex(0), mark);
+    let line = Line::Mark(VpIndex(vp), mark);
     push(lines, &line, &[], &[], &[])
+}
+
+// One mark of the first processor more.
+fn add(lines: &mut Items<Line>, level: Vtl, rip: u64, what: &What) -> Result<(), AllocError> {
+    add_of(lines, 0, level, rip, what)
 }
 
 fn grant(mask: Option<Mask>) -> Grant {
@@ -262,6 +329,53 @@ fn each_ending(alloc: Global) -> Result<Items<Ending>, AllocError> {
     Ok(ends)
 }
 
+// The mark of a processor's first operation.
+fn add_first(lines: &mut Items<Line>, vp: u8, what: &What) -> Result<(), AllocError> {
+    add_of(lines, vp, Vtl::Zero, 0, what)
+}
+
+fn found(value: u64) -> Grant {
+    Grant {
+        page: Page(0),
+        mask: Some(Mask::all()),
+        generation: 0,
+        value,
+        hit: false,
+    }
+}
+
+fn add_eight(lines: &mut Items<Line>) -> Result<(), AllocError> {
+    let denied = What::Denied(Denial {
+        page: Page(1),
+        mask: Mask::of(1).unwrap(),
+        generation: 0,
+        access: Access::Write,
+        posted: Posted::Held,
+    });
+    add_first(lines, 4, &What::Again(found(0)))?;
+    add_first(lines, 7, &What::Granted(found(1)))?;
+    add_first(lines, 0, &denied)?;
+    add_first(lines, 1, &What::Fault(GuestFault::Align))?;
+    add_first(lines, 2, &What::Plain)?;
+    add_first(lines, 3, &What::Granted(found(7)))?;
+    add_first(lines, 4, &What::Again(found(0)))?;
+    add_first(lines, 5, &What::Fault(GuestFault::Page))?;
+    add_first(lines, 6, &What::Fault(GuestFault::Noncanonical))
+}
+
+fn eight_endings(alloc: Global) -> Result<Items<Ending>, AllocError> {
+    let mut ends = Items::new(alloc);
+    ends.push(Ending::Held)?;
+    ends.push(Ending::Fault(GuestFault::Align))?;
+    ends.push(Ending::Done)?;
+    ends.push(Ending::Budget)?;
+    ends.push(Ending::Spun)?;
+    ends.push(Ending::Fault(GuestFault::Page))?;
+    ends.push(Ending::Fault(GuestFault::Noncanonical))?;
+    ends.push(Ending::Cut)?;
+    Ok(ends)
+}
+
 fn only_lines(alloc: Global, lines: Items<Line>) -> Report {
     report(
         alloc,
@@ -314,11 +428,28 @@ fn writes_the_journal_and_what_stands_at_the_end(rt: HostRuntime) -> Result<(), 
     Ok(())
 }
 
+#[test]
+fn writes_what_eight_processors_leave(rt: HostRuntime) -> Result<(), Fail> {
+    let alloc = rt.alloc();
+    let script = script(alloc, 8, eight_programs(alloc)?)?;
+    let mut lines = Items::new(alloc);
+    add_eight(&mut lines)?;
+    let mut masks = Items::new(alloc);
+    masks.push(Mask::all())?;
+    masks.push(Mask::of(1).unwrap())?;
+    let mut words = vec![in alloc; 0; 1024]?;
+    words[0] = 1;
+    let report = report(alloc, lines, eight_endings(alloc)?, masks, words);
+    let text = text_of(alloc, &script, &report)?;
+    assert_eq!(rt; text.as_slice(), EIGHT);
+    Ok(())
+}
+
 // 200 lines of 28 or 29 bytes: two writes, of which the first takes 4,096 bytes.
 #[test]
 fn writes_when_the_buffer_is_full_and_at_the_end(rt: HostRuntime) -> Result<(), Fail> {
     let alloc = rt.alloc();
-    let script = script(alloc, program(alloc)?)?;
+    let script = script(alloc, 1, one_program(alloc)?)?;
     let words = vec![in alloc; 1; 200]?;
     let report = report(
         alloc,
