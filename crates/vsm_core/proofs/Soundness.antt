@@ -58,8 +58,8 @@ module _ (limits : Limits) (goal : Goal) (same : goal.pages ≡ limits.pages) wh
   at_page-sound : (es : List Event) (to : Translation) (generation : ℕ) → IsIn (phase_of es) → Sound limits IsInside es (at_page goal to generation)
   at_page-sound es to generation inside =
       Sound-cond limits IsInside es (nat_lt to.page goal.pages) (behind_mask goal.level to.page (by_mask goal to generation) (reaches goal to generation None)) (Ends (Faults Unmapped)) (λ e.
-          let low : to.page < limits.pages = grind (arith, nat_tests, same) in
-          behind-sound goal.level es to.page (by_mask goal to generation) (reaches goal to generation None) inside low (λ fs mask within. by_mask-sound fs to generation mask within low) (data_step-sound goal.access es to.page None generation _ inside low)) inside
+      let low : to.page < limits.pages = grind (arith, nat_tests, same) in
+      behind-sound goal.level es to.page (by_mask goal to generation) (reaches goal to generation None) inside low (λ fs mask within. by_mask-sound fs to generation mask within low) (data_step-sound goal.access es to.page None generation _ inside low)) inside
 
   -- the table that is wanted next has the place that is wanted
   abbrev IsLow : Walked → Type 0
@@ -74,8 +74,8 @@ module _ (limits : Limits) (goal : Goal) (same : goal.pages ≡ limits.pages) wh
   at_table-sound : (more : List ℕ → Tree Decision) (es : List Event) (entries : List ℕ) (generation : ℕ) (w : Walked) → IsLow w → IsIn (phase_of es) → ((fs : List Event) (ns : List ℕ) → IsIn (phase_of fs) → Sound limits IsInside fs (more ns)) → Sound limits IsInside es (at_table more goal entries generation w)
   at_table-sound more es entries generation (Need page index) place inside h =
       Sound-cond limits IsInside es (nat_lt page goal.pages) (behind_mask goal.level page (by_table_mask more entries generation page index) (entry_step more entries page index)) (Ends (Faults Unmapped)) (λ e.
-          let low : page < limits.pages = grind (arith, nat_tests, same) in
-          behind-sound goal.level es page (by_table_mask more entries generation page index) (entry_step more entries page index) inside low (λ fs mask within. by_table_mask-sound more fs entries generation page index mask within low place h) ((inside, low, place), λ x. h _ (entries ++ x ∷ []) inside)) inside
+      let low : page < limits.pages = grind (arith, nat_tests, same) in
+      behind-sound goal.level es page (by_table_mask more entries generation page index) (entry_step more entries page index) inside low (λ fs mask within. by_table_mask-sound more fs entries generation page index mask within low place h) ((inside, low, place), λ x. h _ (entries ++ x ∷ []) inside)) inside
   at_table-sound more es entries generation (Mapped to) place inside h = at_page-sound es to generation inside
   at_table-sound more es entries generation (Refused fault) place inside h = inside
 
