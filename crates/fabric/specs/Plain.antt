@@ -21,6 +21,7 @@ plain_of limits words phases cleared = record {
   fabric = record { words = words; phases = phases; turns = slice_index words (generation_at limits); cleared = cleared };
 }
 
+-- the mask words hold masks
 abbrev pub HasMasks : ℕ → List ℕ → Type 0
 HasMasks pages words = (k : ℕ) → k < pages → IsTrue (is_mask (slice_index words k))
 

@@ -1,6 +1,5 @@
 -- What is known of the ways to a plain fabric.
-use Rattle.std.specs.Prelude.{Some}
-use Rattle.std.proofs.Common.{get_or}
+use Rattle.std.specs.Prelude.{Some, get_or}
 use Rattle.vsm_core.specs.declared.event.Phase.TheVariants.{Idle}
 use Rattle.vsm_core.specs.Seat.{Seat}
 use Rattle.vsm_core.specs.Stand.{Stand}
