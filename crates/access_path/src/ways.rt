@@ -159,13 +159,7 @@ pub fn at_table_mask(
 }
 
 /// The mask of the data page is known.
-pub fn at_data_mask(
-    aim: &Aim,
-    mask: Mask,
-    generation: u64,
-    page: Page,
-    to: Translation,
-) -> Next
+pub fn at_data_mask(aim: &Aim, mask: Mask, generation: u64, page: Page, to: Translation) -> Next
     requires { IsPlaced aim.now (Place.DataMask generation page to) }
     ensures goes { Goes aim.now result.turn result.place (by_mask (goal_of aim.now) (translation_of to) generation mask) }
     ensures placed { IsPlaced aim.now result.place }
