@@ -1,6 +1,6 @@
 // Where an access goes on, by what it has learned.
-ghost use Rattle.std.specs.Prelude.{◌≡◌, ℕ, List, [], true, false};
-ghost use Rattle.vsm_core.specs.Tree.{Tree, Asks};
+ghost use Rattle.std.specs.Prelude.{◌≡◌, ℕ, List};
+ghost use Rattle.vsm_core.specs.Tree.{Tree};
 ghost use Rattle.vsm_core.specs.Access.{Decision, tables, at_table, at_page, from_check, query_of, by_mask, by_table_mask};
 ghost use Rattle.vsm_core.specs.Walk.{Walked, is_paging};
 ghost use Rattle.vsm_core.specs.declared.event.Phase.TheVariants.{In};
