@@ -1,8 +1,8 @@
 -- The tables of an access by how many more it may read.
-use Rattle.std.proofs.Common.{◌≡◌, ◌<◌, ◌+◌, ℕ, zero, suc, List, [], ◌∷◌, ◌++◌, length, refl, rules, arith, length-append, subst, sym}
+use Rattle.std.proofs.Common.{◌≡◌, ◌+◌, ℕ, zero, suc, List, [], ◌∷◌, ◌++◌, length, refl, arith, length-append}
 use Rattle.vsm_core.specs.declared.mark.GuestFault.TheVariants.{Page}
-use Rattle.vsm_core.specs.Tree.{Tree, Ends, Asks}
-use Rattle.vsm_core.specs.Walk.{walk, Walked}
+use Rattle.vsm_core.specs.Tree.{Tree, Ends}
+use Rattle.vsm_core.specs.Walk.{walk}
 use Rattle.vsm_core.specs.Access.{Goal, Decision, Faults, tables, at_table, query_of}
 use Rattle.access_path.specs.Rest.{Continues}
 

@@ -10,3 +10,6 @@ mod ways;
 pub use aim::Aim;
 pub use path::Path;
 pub use place::PathTurn;
+
+#[cfg(test)]
+mod tests;

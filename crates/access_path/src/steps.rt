@@ -4,9 +4,7 @@ ghost use Rattle.access_path.specs.Rest.{Steps, Serves, IsPlaced};
 
 use crate::aim::Aim;
 use crate::place::{Next, PathTurn, Place, Stepped};
-use crate::ways::{
-    at_data_mask, at_table_mask, at_walk, from_generation, moved, over,
-};
+use crate::ways::{at_data_mask, at_table_mask, at_walk, from_generation, moved, over};
 use fabric::Port;
 use page_walk::{Translation, Walk};
 use vsm_base::{Access, Mask, Page};
@@ -74,7 +72,10 @@ fn check<P: Port>(aim: &Aim, port: &mut P) -> Stepped
     ensures { Steps aim.now Place.Check (P.seat port.old) (P.seat port.new) result }
 {
     let generation = port.check();
-    seen(Event::Check { generation }, from_generation(aim, generation))
+    seen(
+        Event::Check { generation },
+        from_generation(aim, generation),
+    )
 }
 
 fn table_mask<P: Port>(

@@ -1,6 +1,6 @@
 // Where an access goes on, by what it has learned.
-ghost use Rattle.std.specs.Prelude.{◌≡◌, ℕ, List, [], true, false};
-ghost use Rattle.vsm_core.specs.Tree.{Tree, Asks};
+ghost use Rattle.std.specs.Prelude.{◌≡◌, ℕ, List};
+ghost use Rattle.vsm_core.specs.Tree.{Tree};
 ghost use Rattle.vsm_core.specs.Access.{Decision, tables, at_table, at_page, from_check, query_of, by_mask, by_table_mask};
 ghost use Rattle.vsm_core.specs.Walk.{Walked, is_paging};
 ghost use Rattle.vsm_core.specs.declared.event.Phase.TheVariants.{In};
@@ -159,13 +159,7 @@ pub fn at_table_mask(
 }
 
 /// The mask of the data page is known.
-pub fn at_data_mask(
-    aim: &Aim,
-    mask: Mask,
-    generation: u64,
-    page: Page,
-    to: Translation,
-) -> Next
+pub fn at_data_mask(aim: &Aim, mask: Mask, generation: u64, page: Page, to: Translation) -> Next
     requires { IsPlaced aim.now (Place.DataMask generation page to) }
     ensures goes { Goes aim.now result.turn result.place (by_mask (goal_of aim.now) (translation_of to) generation mask) }
     ensures placed { IsPlaced aim.now result.place }

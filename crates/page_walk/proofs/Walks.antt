@@ -1,9 +1,8 @@
 -- A walk that takes an entry which is present.
-use Rattle.std.proofs.Common.{◌≡◌, ◌<◌, ◌&&◌, ◌==◌, ℕ, Bool, true, false, cond, List, [], ◌∷◌, ◌++◌, length, refl, arith}
+use Rattle.std.proofs.Common.{◌≡◌, ◌<◌, ◌&&◌, ℕ, Bool, true, false, cond, List, [], ◌∷◌, ◌++◌, length, refl, arith}
 use Rattle.std.specs.List.{list_all}
-use Rattle.vsm_core.specs.Fills.{Translation}
-use Rattle.vsm_core.specs.Walk.{Query, walk, is_paging, is_canonical, is_present, is_right, paged, Mapped, Refused, Walked}
-use Rattle.vsm_core.specs.declared.mark.GuestFault.TheVariants.{Noncanonical, Page}
+use Rattle.vsm_core.specs.Walk.{Query, walk, is_paging, is_canonical, is_present, paged, Mapped, Refused}
+use Rattle.vsm_core.specs.declared.mark.GuestFault.TheVariants.{Page}
 use Rattle.page_walk.specs.declared.walk.Translation.{Translation as Found}
 use Rattle.page_walk.specs.declared.walk.WalkStep.TheVariants as answers
 use Rattle.page_walk.specs.Half.{Half, fresh, with_entry, with_entries, Stands}

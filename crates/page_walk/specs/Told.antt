@@ -1,5 +1,5 @@
 -- What a walk answers to an entry.
-use Rattle.std.specs.Prelude.{◌≡◌, ◌<◌, ℕ, nat_lt, if◌then◌else◌}
+use Rattle.std.specs.Prelude.{◌≡◌, ◌<◌, nat_lt, if◌then◌else◌}
 use Rattle.vsm_core.specs.declared.mark.GuestFault.TheVariants.{Page}
 use Rattle.vsm_core.specs.Fills.{Translation}
 use Rattle.vsm_core.specs.Walk.{Walked, Need, Mapped, Refused, index_at, is_right}

@@ -5,3 +5,6 @@ mod entry;
 mod walk;
 
 pub use walk::{Translation, Walk, WalkStep};
+
+#[cfg(test)]
+mod tests;
