@@ -1,7 +1,5 @@
 //! One virtual processor.
 #![tactic(auto)]
 
-mod access;
-mod processor;
-
-pub use processor::Cpu;
+mod operations;
+mod registers;
