@@ -1,1 +1,4 @@
+pub mod Logs
 pub mod Results
+pub mod Stages
+pub mod Turns

@@ -1,5 +1,11 @@
 //! One virtual processor.
 #![tactic(auto)]
 
+mod cpu_turn;
+mod endings;
+mod log;
 mod operations;
 mod registers;
+mod stage;
+
+pub use cpu_turn::CpuTurn;
