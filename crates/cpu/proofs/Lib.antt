@@ -1,1 +1,4 @@
+pub mod Attempts
 pub mod Banks
+pub mod Ops
+pub mod Steps

@@ -1,8 +1,9 @@
 -- What a processor keeps of its attempts, and what each turn does to it.
-use Rattle.std.specs.Prelude.{ℕ, ◌+◌, ◌-◌, Bool, true, false, if◌then◌else◌, List, [], ◌∷◌, ◌++◌, take, drop, length}
+use Rattle.std.specs.Prelude.{ℕ, ◌+◌, ◌-◌, Bool, true, false, if◌then◌else◌, List, [], ◌∷◌, ◌++◌, take, drop, length, Option, Some}
 use Rattle.vsm_base.specs.declared.places.Vtl.{Vtl}
 use Rattle.vsm_core.specs.declared.event.Event.{Event}
 use Rattle.vsm_core.specs.declared.event.Event.TheVariants as events
+use Rattle.vsm_core.specs.declared.mark.Ending.{Ending}
 use Rattle.vsm_core.specs.declared.mark.Mark.{Mark}
 use Rattle.vsm_core.specs.declared.mark.What.{What}
 use Rattle.cpu.specs.declared.log.Log.{Log}
@@ -32,14 +33,14 @@ mark_in l level rip what = record { level = level; rip = rip; what = what; first
 abbrev pub with_mark : Log → Mark → Log
 with_mark l mark = record l { marks = (l.marks.0 ++ mark ∷ [], l.marks.1) }
 
--- a mark that stays
-abbrev pub marked_in : Log → Mark → Log
-marked_in l mark = record (with_mark l mark) { part = length l.seen.0; first = length l.seen.0 }
+-- a mark that stays, with the ending that then holds
+abbrev pub marked_in : Log → Mark → Option Ending → Log
+marked_in l mark ended = record (with_mark l mark) { part = length l.seen.0; first = length l.seen.0; ended = ended }
 
 -- the mark of a spin that found another value
 abbrev pub again_in : Log → Mark → Log
 again_in l mark = record (with_mark l mark) { first = length l.seen.0; again = true; spins = l.spins + 1 }
 
 -- a spin found another value once too often
-abbrev pub spun_in : Log → Log
-spun_in l = record l { seen = (take l.part l.seen.0, l.seen.1); first = l.part; spins = l.spins + 1 }
+abbrev pub spun_in : Log → Ending → Log
+spun_in l ending = record l { seen = (take l.part l.seen.0, l.seen.1); first = l.part; spins = l.spins + 1; ended = Some ending }

@@ -14,12 +14,11 @@ use Rattle.vsm_core.specs.Steps.{IsIn, learned, phase_of}
 use Rattle.vsm_core.specs.Tree.{Tree, Ends, Asks, Leaving, then_, follow, Counts}
 use Rattle.vsm_core.specs.Turns.{Turned}
 use Rattle.access_path.specs.declared.place.Place.TheVariants.{Over}
-use Rattle.access_path.specs.Rest.{Rest, IsAt}
+use Rattle.access_path.specs.Rest.{Rest, IsAt, Serves}
 use Rattle.cpu.specs.declared.stage.Stage.{Stage}
 use Rattle.cpu.specs.declared.stage.Stage.TheVariants.{Reach, Leave, End}
 use Rattle.cpu.specs.declared.stage.Under.{Under}
 use Rattle.cpu.specs.declared.stage.StageStep.{StageStep}
-use Rattle.cpu.specs.Logs.{first_by}
 use Rattle.cpu.specs.Results.{EndsAs, granted_of, result_of}
 use Rattle.cpu.specs.Turns.{phase_at}
 
@@ -56,25 +55,31 @@ IsTidy part first (Reach path) phase = TidyIn part first phase
 IsTidy part first (Leave decided) phase = part ≡ first
 IsTidy part first (End decided) phase = part ≡ first
 
--- a port that a processor at this stage may be lent
-pub record StageServes (count : ℕ) (stage : Stage) (seat : Seat) : Type 0 where
-  pub phase : StageAt stage seat.phase
-  pub pages : seat.limits.pages ≡ count
-  pub vp : seat.vp < seat.limits.vps
-
--- the step from a stage, as a port saw it, and where it led
-pub record StageSteps (count : ℕ) (state : State) (op : Op) (stage : Stage) (old new : Seat) (step : StageStep) : Type 0 where
-  pub event : new.last ≡ Some step.event
-  pub turned : (tree : Tree Outcome) → StageRest state op stage tree → Turned tree old new (StageRest state op step.stage)
-  pub is : StageIs count step.stage
-  pub phase : StageAt step.stage new.phase
-  pub tidy : (part first : ℕ) → IsTidy part first stage old.phase → IsTidy part (first_by part first step.event) step.stage new.phase
-
 -- a stage from which a step is made
 abbrev pub is_going : Stage → Bool
 is_going (Reach path) = true
 is_going (Leave decided) = true
 is_going (End decided) = false
+
+-- a port that may be lent to a stage from which a step is made
+abbrev pub StageServes : Stage → Seat → Type 0
+StageServes (Reach path) seat = Serves path.aim path.place seat × (path.place ≢ Over)
+StageServes (Leave decided) seat = IsIn seat.phase × (seat.vp < seat.limits.vps)
+StageServes (End decided) seat = ⊥
+
+-- an access that goes on or was decided has a step left, at least its leave
+abbrev pub Goes : Stage → Stage → Type 0
+Goes (Reach path) next = is_going next ≡ true
+Goes (Leave decided) next = Unit {0}
+Goes (End decided) next = Unit {0}
+
+-- the step from a stage, as its port saw it, and where it led
+pub record StageSteps (stage : Stage) (old new : Seat) (step : StageStep) : Type 0 where
+  pub event : new.last ≡ Some step.event
+  pub turned : (state : State) (op : Op) (tree : Tree Outcome) → StageRest state op stage tree → Turned tree old new (StageRest state op step.stage)
+  pub is : (count : ℕ) → StageIs count stage → StageIs count step.stage
+  pub at : StageAt step.stage new.phase
+  pub goes : Goes stage step.stage
 
 -- the operation of an attempt that is under way
 abbrev pub op_of : Option Under → Option Op

@@ -83,14 +83,13 @@ fn aim_of(pages: u32, bank: &Bank, level: Vtl, op: Op) -> Option<Aim>
     ensures local { IfNone result (EndsAs (attempt pages (state_of bank.now level) op) (result_of (state_of bank.now level) op Decided.Local)) }
 {
     match op {
-        Op::Load(_, gva) | Op::Spin(gva, _) => {
-            Some(aim_at(pages, bank, level, Access::Read, true, gva, 0))
-        }
+        Op::Load(_, gva) => Some(aim_at(pages, bank, level, Access::Read, true, gva, 0)),
         Op::Store(gva, what) => {
             let value = operand(bank, level, what);
             Some(aim_at(pages, bank, level, Access::Write, true, gva, value))
         }
         Op::Exec(gva) => Some(aim_at(pages, bank, level, Access::Execute, false, gva, 0)),
+        Op::Spin(gva, _) => Some(aim_at(pages, bank, level, Access::Read, true, gva, 0)),
         _ => None,
     }
 }
@@ -122,30 +121,34 @@ fn after_step(path: Path, turn: PathTurn) -> Stage
     ensures at { (phase : Phase) → IsAt path.place phase → StageAt result phase }
     ensures goes { is_going_lem result ≡ true }
 {
-    let decided = match turn {
-        PathTurn::Moved => return Stage::Reach { path },
-        PathTurn::Granted(grant) => Decided::Granted(grant),
+    match turn {
+        PathTurn::Moved => Stage::Reach { path },
+        PathTurn::Granted(grant) => Stage::Leave {
+            decided: Decided::Granted(grant),
+        },
         PathTurn::Denied {
             page,
             mask,
             generation,
             access,
             gpa: _,
-        } => Decided::Denied {
-            page,
-            mask,
-            generation,
-            access,
+        } => Stage::Leave {
+            decided: Decided::Denied {
+                page,
+                mask,
+                generation,
+                access,
+            },
         },
-        PathTurn::Fault(fault) => Decided::Fault(fault),
-    };
-    Stage::Leave { decided }
+        PathTurn::Fault(fault) => Stage::Leave {
+            decided: Decided::Fault(fault),
+        },
+    }
 }
 
 fn reach<P: Port>(path: Path, port: &mut P) -> StageStep
-    requires is { path.place ≢ Over }
-    requires serves { Serves path.aim path.place (P.seat port.old) }
-    ensures { (state : State) (op : Op) → StageSteps path.aim.pages state op (Stage.Reach path) (P.seat port.old) (P.seat port.new) result }
+    requires { StageServes (Stage.Reach path) (P.seat port.old) }
+    ensures { StageSteps (Stage.Reach path) (P.seat port.old) (P.seat port.new) result }
 {
     let mut path = path;
     let (turn, event) = path.step(port);
@@ -154,9 +157,8 @@ fn reach<P: Port>(path: Path, port: &mut P) -> StageStep
 }
 
 fn leave<P: Port>(decided: Decided, port: &mut P) -> StageStep
-    requires inside { IsIn (P.seat port.old).phase }
-    requires vp { (P.seat port.old).vp < (P.seat port.old).limits.vps }
-    ensures { (count : ℕ) (state : State) (op : Op) → StageSteps count state op (Stage.Leave decided) (P.seat port.old) (P.seat port.new) result }
+    requires { StageServes (Stage.Leave decided) (P.seat port.old) }
+    ensures { StageSteps (Stage.Leave decided) (P.seat port.old) (P.seat port.new) result }
 {
     port.leave();
     StageStep {
@@ -174,11 +176,8 @@ pub fn is_going(stage: &Stage) -> bool
 
 /// Makes the next step of an attempt.
 pub fn step<P: Port>(stage: Stage, port: &mut P) -> StageStep
-    ghost count: { ℕ }
-    requires going { is_going_lem stage ≡ true }
-    requires is { StageIs count stage }
-    requires serves { StageServes count stage (P.seat port.old) }
-    ensures { (state : State) (op : Op) → StageSteps count state op stage (P.seat port.old) (P.seat port.new) result }
+    requires { StageServes stage (P.seat port.old) }
+    ensures { StageSteps stage (P.seat port.old) (P.seat port.new) result }
 {
     match stage {
         Stage::Reach { path } => reach(path, port),
