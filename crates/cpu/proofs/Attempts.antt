@@ -7,19 +7,16 @@ use Rattle.vsm_core.specs.declared.event.Event.TheVariants.{Check}
 use Rattle.vsm_core.specs.declared.event.Phase.{Phase}
 use Rattle.vsm_core.specs.declared.event.Phase.TheVariants.{Idle, Entered, In}
 use Rattle.vsm_core.specs.declared.operation.Op.{Op}
-use Rattle.vsm_core.specs.Attempt.{attempt, most_steps}
+use Rattle.vsm_core.specs.Attempt.{Outcome, attempt, most_steps}
 use Rattle.vsm_core.specs.State.{State}
-use Rattle.vsm_core.specs.Tree.{Tree, Counts, follow}
+use Rattle.vsm_core.specs.Tree.{Tree, Ends, Counts, follow}
 use Rattle.vsm_core.proofs.Bounds.{attempt-counts}
 use Rattle.cpu.specs.declared.stage.Stage.{Stage}
 use Rattle.cpu.specs.declared.stage.Stage.TheVariants.{Reach, Leave, End}
 use Rattle.cpu.specs.declared.stage.Under.{Under}
 use Rattle.cpu.specs.Stages.{StageRest, StageIs, StageAt, IsTidy, IsUnderWay, Means}
 use Rattle.cpu.specs.Turns.{phase_at}
-
-drop-length : {A : Type 0} (xs : List A) → drop (length xs) xs ≡ []
-drop-length [] = refl
-drop-length (x ∷ xs) = drop-length xs
+use Rattle.cpu.proofs.Lists.{drop-length}
 
 pub none-seen : (seen : List Event) (first : ℕ) → first ≡ length seen → drop first seen ≡ []
 none-seen seen first e = rw e (drop-length seen)
@@ -44,3 +41,9 @@ begun-under count state u seen part first e tidy is rest at =
 
 pub begun-means : (count : ℕ) (state : State) (u : Under) (seen : List Event) (part first : ℕ) → first ≡ length seen → part ≡ first → StageIs count u.stage → StageRest state u.op u.stage (attempt count state u.op) → StageAt u.stage Idle → IsUnderWay count state u seen part first
 begun-means count state u seen part first e same is rest at = begun-under count state u seen part first e (tidy-idle part first u.stage Idle same refl) is rest at
+
+-- an attempt that begins with a step is tidy
+pub tidy-begun : (part first : ℕ) (state : State) (op : Op) (stage : Stage) (tree : Tree Outcome) → StageRest state op stage tree → StageAt stage Idle → ((o : Outcome) → tree ≢ Ends o) → IsTidy part first stage Idle
+tidy-begun part first state op (Reach path) tree rest at asks = tt
+tidy-begun part first state op (Leave decided) tree rest at asks = absurd at
+tidy-begun part first state op (End decided) tree rest at asks = absurd (asks _ rest.1)

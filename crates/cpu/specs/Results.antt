@@ -1,5 +1,5 @@
 -- What an attempt has come to, by the decision of its access.
-use Rattle.std.specs.Prelude.{◌≡◌, ℕ, List, Option, Some, None}
+use Rattle.std.specs.Prelude.{◌≡◌, ℕ, ◌==◌, if◌then◌else◌, List, [], Option, Some, None}
 use Rattle.vsm_base.specs.declared.places.Vtl.{Vtl}
 use Rattle.vsm_core.specs.declared.mark.Grant.{Grant}
 use Rattle.vsm_core.specs.declared.mark.GuestFault.TheVariants.{Undefined}
@@ -34,12 +34,21 @@ granted_of state (Load name gva) grant = loaded state name grant
 granted_of state (Spin gva value) grant = spun state value grant
 granted_of state _ grant = passed state grant
 
+-- the grant of a spin that found another value
+abbrev pub again_of : Op → Decided → Option Grant
+again_of (Spin gva value) (Granted grant) = if grant.value == value then None else Some grant
+again_of op decided = None
+
 -- what an attempt of this operation comes to, and the state that it leaves
 abbrev pub result_of : State → Op → Decided → What × State
 result_of state op Local = ((local_outcome state op).what, (local_outcome state op).state)
 result_of state op (Granted grant) = granted_of state op grant
 result_of state op (Denied page mask generation access) = (whats.Denied (record { page = page; mask = mask; generation = generation; access = access; posted = Held }), state)
 result_of state op (Fault fault) = (whats.Fault fault, state)
+
+-- the outcome of this, with nothing done to the cached translations
+abbrev pub outcome : What × State → Outcome
+outcome result = record { what = result.0; state = result.1; does = [] }
 
 -- the end of an attempt that came to this, whatever it did to the cached translations
 abbrev pub EndsAs : Tree Outcome → What × State → Type 0

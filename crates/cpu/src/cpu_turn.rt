@@ -1,5 +1,8 @@
 // What a turn came to.
-use vsm_core::Ending;
+ghost use Rattle.std.specs.Prelude.{◌≡◌};
+ghost use Rattle.cpu.specs.Turns.{after_mark};
+
+use vsm_core::{Ending, What};
 
 /// What one turn of a processor came to.
 #[derive(Clone, Copy, Debug, PartialEq, Eq)]
@@ -14,4 +17,15 @@ pub enum CpuTurn {
     Again,
     /// It runs no more.
     Ended(Ending),
+}
+
+/// What a turn answers by which an attempt came to this.
+pub fn after_mark(what: &What, ended: Option<Ending>) -> CpuTurn
+    ensures { result ≡ after_mark what.now ended }
+{
+    match ended {
+        Some(ending) => CpuTurn::Ended(ending),
+        None if matches!(what, What::Again(_)) => CpuTurn::Again,
+        None => CpuTurn::Attempt,
+    }
 }

@@ -52,7 +52,14 @@ fn spun_out(spins: u32) -> Option<Ending>
     }
 }
 
-/// The ending that holds after a mark, with so many marks that count for the budget.
+/// The ending after an attempt that is none by itself, with so many marks that count for the budget.
+pub fn ending_on(length: usize, budget: u32, rip: u64, marks: usize, spins: u32) -> Option<Ending>
+    ensures { result ≡ or_else (ran_out length budget rip marks) (spun_out spins) }
+{
+    ran_out(length, budget, rip, marks).or(spun_out(spins))
+}
+
+/// The ending that holds after an attempt came to this.
 pub fn ending(
     length: usize,
     budget: u32,
@@ -63,7 +70,5 @@ pub fn ending(
 ) -> Option<Ending>
     ensures { result ≡ or_else (stopped_by what.now) (or_else (ran_out length budget rip marks) (spun_out spins)) }
 {
-    stopped_by(what)
-        .or(ran_out(length, budget, rip, marks))
-        .or(spun_out(spins))
+    stopped_by(what).or(ending_on(length, budget, rip, marks, spins))
 }

@@ -5,7 +5,9 @@ mod cpu_turn;
 mod endings;
 mod log;
 mod operations;
+mod processor;
 mod registers;
 mod stage;
 
 pub use cpu_turn::CpuTurn;
+pub use processor::Cpu;

@@ -2,7 +2,7 @@
 ghost use Rattle.std.specs.Prelude.{◌≡◌, IfSome, IfNone};
 ghost use Rattle.vsm_core.specs.Attempt.{set_outcome, get_outcome, jumped};
 ghost use Rattle.vsm_core.specs.State.{gone_on, put_legal as put_legal_lem};
-ghost use Rattle.cpu.specs.Results.{state_of, local_outcome, granted_of, result_of};
+ghost use Rattle.cpu.specs.Results.{state_of, again_of, local_outcome, granted_of, result_of};
 
 use crate::registers::{go_on, go_to, may_name, put_legal, word_of};
 use register_file::{BadValue, Bank};
@@ -98,6 +98,16 @@ fn granted(bank: &mut Bank, level: Vtl, op: Op, grant: Grant) -> What
         _ => go_on(bank, level),
     }
     What::Granted(grant)
+}
+
+/// The grant of a spin that found another value.
+pub fn again(op: Op, decided: &Decided) -> Option<Grant>
+    ensures { result ≡ again_of op decided.now }
+{
+    match (op, decided) {
+        (Op::Spin(_, value), Decided::Granted(grant)) if grant.value != value => Some(*grant),
+        _ => None,
+    }
 }
 
 /// What an attempt comes to by its decision. It changes the registers so.

@@ -1,0 +1,17 @@
+-- Lists that grow at their end.
+use Rattle.std.proofs.Common.{◌≡◌, ◌+◌, ◌-◌, ◌<◌, ◌≤◌, ℕ, List, [], ◌∷◌, ◌++◌, length, drop, take, refl, arith, length-append, ap}
+use Rattle.std.proofs.Math.Seq.{take-append_seam}
+use Rattle.std.specs.List.{All}
+use Rattle.std.proofs.lemmas.List.Elements.{All-nil}
+
+pub drop-length : {A : Type 0} (xs : List A) → drop (length xs) xs ≡ []
+drop-length [] = refl
+drop-length (x ∷ xs) = drop-length xs
+
+-- whatever holds of all new items holds where there are none
+pub none-new : {A : Type 0} (P : A → Type 0) (xs : List A) → All P (drop (length xs) xs)
+none-new P xs = rw (drop-length xs) (All-nil P)
+
+-- the list before its last item
+pub all-but-last : {A : Type 0} (xs : List A) (x : A) → take (length (xs ++ x ∷ []) - 1) (xs ++ x ∷ []) ≡ xs
+all-but-last xs x = let e : length (xs ++ x ∷ []) - 1 ≡ length xs = omega (arith, length-append xs (x ∷ [])) in rw e (take-append_seam xs (x ∷ []))
