@@ -77,7 +77,7 @@ set-no-again state name value =
 get-no-again : (state : State) (name : Name) → NoAgain (Ends (get_outcome state name))
 get-no-again state name = NoAgain-cond (may_name state name) (record { what = whats.Value (get state name); state = gone_on state; does = [] }) (faulted state Gp) (λ grant e. cc) (λ grant e. cc)
 
-attempt-no-again : (pages : ℕ) (state : State) (op : Op) → NoAgain (attempt pages state op)
+pub attempt-no-again : (pages : ℕ) (state : State) (op : Op) → NoAgain (attempt pages state op)
 attempt-no-again pages state (Set name value) = set-no-again state name value
 attempt-no-again pages state (Get name) = get-no-again state name
 attempt-no-again pages state (Load name gva) = begun-no-again state (loaded state name) (goal_of pages state Read true gva.0 0) _
@@ -152,3 +152,9 @@ came-marked _ v o h = refl
 pub settled-marked : (v : Vp) (tree : Tree Outcome) (state : State) (op : Op) (decided : Decided) → EndsAs tree (result_of state op decided) → again_of op decided ≡ None → marked v (outcome (result_of state op decided)) ≡ settled tree v
 settled-marked v tree state op decided ends none =
     rw ends.1 (sym (came-marked (result_of state op decided).0 v (record { what = (result_of state op decided).0; state = (result_of state op decided).1; does = ends.0 }) (λ grant. result-stays state op decided grant none)))
+
+-- a stage from which no step is made
+pub going-ends : (state : State) (op : Op) (stage : Stage) (tree : Tree Outcome) → is_going stage ≡ false → StageRest state op stage tree → (o : Outcome) × (tree ≡ Ends o)
+going-ends state op (Reach path) tree going rest = cc
+going-ends state op (Leave decided) tree going rest = cc
+going-ends state op (End decided) tree going rest = (_, rest.1)

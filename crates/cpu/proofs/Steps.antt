@@ -50,7 +50,7 @@ same-after part first Checking x e = refl
 same-after part first _ x e = e
 
 -- what was tidy is tidy after the step
-pub tidy-step : (part first : ℕ) (s : WordStep) (x : ℕ) (stage next : Stage) (phase : Phase) → Goes stage next → StageAt next (phase_after phase s x) → IsTidy part first stage phase → IsTidy part (first_by part first (made s x)) next (phase_after phase s x)
-tidy-step part first s x (Reach path) next phase going at h = tidy-stage part _ next _ going at (tidy-after part first s x phase h)
-tidy-step part first s x (Leave decided) next phase going at h = tidy-same part _ next _ (same-after part first s x h)
-tidy-step part first s x (End decided) next phase going at h = tidy-same part _ next _ (same-after part first s x h)
+pub tidy-step : (part first : ℕ) (s : WordStep) (x : ℕ) (stage next : Stage) (before now : Phase) → now ≡ phase_after before s x → Goes stage next → StageAt next now → IsTidy part first stage before → IsTidy part (first_by part first (made s x)) next now
+tidy-step part first s x (Reach path) next before now e going at h = tidy-stage part _ next now going at (rw e (tidy-after part first s x before h))
+tidy-step part first s x (Leave decided) next before now e going at h = tidy-same part _ next now (same-after part first s x h)
+tidy-step part first s x (End decided) next before now e going at h = tidy-same part _ next now (same-after part first s x h)

@@ -48,4 +48,5 @@ pub record IsSound (c : Inside) : Type 0 where
   pub running : c.started ≡ true → c.log.ended ≡ None → rip_of (state_of c.bank c.active) < length_at c.zero_length c.one_length c.active
   pub spins : c.log.ended ≡ None → c.log.spins < spin_limit
   pub waits : c.started ≡ false → c.under ≡ None
+  pub fresh : c.started ≡ false → c.log.again ≡ false
   pub means : Means c.limits.pages (state_of c.bank c.active) c.under c.log.seen.0 c.log.part c.log.first

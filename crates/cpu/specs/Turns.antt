@@ -1,5 +1,5 @@
 -- What one turn of a processor is.
-use Rattle.std.specs.Prelude.{◌≡◌, ℕ, ◌==◌, Bool, if◌then◌else◌, Option, Some, None, List, drop, reverse}
+use Rattle.std.specs.Prelude.{◌≡◌, ℕ, ◌==◌, Bool, if◌then◌else◌, Option, Some, None, IfSome, List, drop, reverse}
 use Rattle.vsm_core.specs.declared.event.Event.{Event}
 use Rattle.vsm_core.specs.declared.event.Phase.{Phase}
 use Rattle.vsm_core.specs.declared.event.PendingWord.TheVariants.{Start}
@@ -56,3 +56,7 @@ answer_woken x ended = if x == 0 then Idle else after_mark (whats.Fault Undefine
 -- a turn of a processor that hasn't started
 abbrev pub Wakes : Vp → Seat → Vp → Seat → CpuTurn → Type 0
 Wakes old before new after turn = (x : ℕ) × Makes before (Taking Start) x after × (new ≡ woken x old) × (turn ≡ answer_woken x new.ended)
+
+-- an operation that is kept is the one that was, and the state is as it was
+abbrev pub Keeps : Vp → Vp → Type 0
+Keeps old new = IfSome new.op (λ op. (old.op ≡ Some op) × (new.state ≡ old.state))

@@ -6,7 +6,7 @@ ghost use Rattle.vsm_core.specs.Attempt.{Outcome, attempt, most_steps_of};
 ghost use Rattle.vsm_core.specs.Tree.{Ends};
 ghost use Rattle.cpu.specs.Sound.{length_at};
 ghost use Rattle.cpu.specs.Results.{outcome, result_of};
-ghost use Rattle.cpu.specs.Turns.{VpServes, TurnsBy, Wakes, answer_at, after_mark, phase_at};
+ghost use Rattle.cpu.specs.Turns.{Keeps, VpServes, TurnsBy, Wakes, answer_at, after_mark, phase_at};
 
 use crate::cpu_turn::{CpuTurn, after_mark};
 use crate::endings::{ending, ending_on, opening_ending};
@@ -117,6 +117,9 @@ impl Cpu {
         ensures turn { result ≡ after_mark (result_of self.old.state op decided).0 self.new.ended }
         ensures short { All IsShort (drop (length self.old.marks) self.new.marks) }
         ensures phase { phase_at self.new.seen self.new.first ≡ Phase.Idle }
+        ensures same { IsSameProcessor self.old self.new }
+        ensures kept { Keeps self.old self.new }
+        ensures within { length self.new.marks ≤ self.old.limits.budget }
     {
         let rip = word_of(&self.bank, self.active, Name::Rip);
         let what = finish(&mut self.bank, self.active, op, decided);
@@ -144,6 +147,9 @@ impl Cpu {
         ensures turn { result ≡ after_mark (What.Again grant) self.new.ended }
         ensures short { All IsShort (drop (length self.old.marks) self.new.marks) }
         ensures phase { phase_at self.new.seen self.new.first ≡ Phase.Idle }
+        ensures same { IsSameProcessor self.old self.new }
+        ensures kept { Keeps self.old self.new }
+        ensures within { length self.new.marks ≤ self.old.limits.budget }
     {
         let rip = word_of(&self.bank, self.active, Name::Rip);
         let length = length_of(self.zero_length, self.one_length, self.active);
@@ -173,6 +179,9 @@ impl Cpu {
         ensures turn { result ≡ answer_at (rest_of self.old self.old.op) self.new.ended }
         ensures short { All IsShort (drop (length self.old.marks) self.new.marks) }
         ensures phase { phase_at self.new.seen self.new.first ≡ phase_at self.old.seen self.old.first }
+        ensures same { IsSameProcessor self.old self.new }
+        ensures kept { Keeps self.old self.new }
+        ensures within { length self.new.marks ≤ self.old.limits.budget }
     {
         let Some(under) = self.under else {
             unreachable!()
@@ -185,5 +194,145 @@ impl Cpu {
             Some(grant) => self.mark_again(op, grant),
             None => self.mark(op, decided),
         }
+    }
+    /// Makes the next step of a processor that has started, or the end of an attempt that has no step left.
+    fn advance<P: Port>(&mut self, port: &mut P, program: &Program) -> CpuTurn
+        requires started { self.old.started ≡ true }
+        requires going { self.old.ended ≡ None }
+        requires zero { length program.now.zero ≡ self.old.zero_length }
+        requires one { length program.now.one ≡ self.old.one_length }
+        requires same { IfSome self.old.op (λ op. operation_at program.now self.old.state ≡ Some op) }
+        requires serves { VpServes self.old (P.seat port.old) }
+        ensures turned { TurnsBy (rest_of self.old (operation_at program.now self.old.state)) (operation_at program.now self.old.state) self.old (P.seat port.old) self.new (P.seat port.new) result }
+        ensures serves { VpServes self.new (P.seat port.new) }
+        ensures short { All IsShort (new_marks self.old self.new) }
+        ensures same { IsSameProcessor self.old self.new }
+        ensures kept { IfSome self.new.op (λ op. operation_at program.now self.new.state ≡ Some op) }
+        ensures within { length self.new.marks ≤ self.old.limits.budget }
+    {
+        let ops = operations(program, self.active);
+        let under = begun(self.limits.pages, &self.bank, self.active, self.under, ops);
+        self.log.stand();
+        self.under = Some(under);
+        if !is_going(&under.stage) {
+            return self.settle();
+        }
+        let step = step(under.stage, port);
+        self.log.see(step.event);
+        self.under = Some(Under {
+            op: under.op,
+            stage: step.stage,
+        });
+        self.settle()
+    }
+
+    /// Takes from the start word of a processor that hasn't started. Where it was 0 nothing changes.
+    fn wake<P: Port>(&mut self, port: &mut P) -> CpuTurn
+        requires waits { self.old.started ≡ false }
+        requires going { self.old.ended ≡ None }
+        requires serves { VpServes self.old (P.seat port.old) }
+        ensures woken { Wakes self.old (P.seat port.old) self.new (P.seat port.new) result }
+        ensures serves { VpServes self.new (P.seat port.new) }
+        ensures short { All IsShort (new_marks self.old self.new) }
+        ensures same { IsSameProcessor self.old self.new }
+        ensures idle { self.new.op ≡ None }
+        ensures within { length self.new.marks ≤ self.old.limits.budget }
+    {
+        let rip = word_of(&self.bank, self.active, Name::Rip);
+        let bits = port.take(PendingWord::Start);
+        if bits == 0 {
+            return CpuTurn::Idle;
+        }
+        let fault = GuestFault::Undefined;
+        self.log.see(Event::Take {
+            word: PendingWord::Start,
+            bits,
+        });
+        self.log.mark(self.active, rip, What::Fault(fault), Some(Ending::Fault(fault)));
+        self.under = None;
+        CpuTurn::Ended(Ending::Fault(fault))
+    }
+    /// Makes at most one step at the processor's port.
+    ///
+    /// A processor that has started makes the next step of the attempt of the operation where the active level's
+    /// program stands, and leaves a mark where the attempt has then come to its end. An attempt that has no step left
+    /// makes none. A spin that found another value leaves a mark that stands until the next turn, and so do its events
+    /// until the check of its next attempt; its 20,000,000th read in vain ends the processor, and nothing of it stays.
+    ///
+    /// A processor that hasn't started takes from its start word. Where that was 0 nothing changes. Starts can't be
+    /// served yet: at anything else it ends as at an undefined operation.
+    ///
+    /// It needs that the processor has no ending, that the programs are those that it was made with, and a port that
+    /// is the processor's own and at which every step since it was made was one of its turns'. It takes no memory. The
+    /// order of an attempt's steps, and spins, are this project's own.
+    pub fn turn<P: Port>(&mut self, port: &mut P, program: &Program) -> CpuTurn
+        requires going { self.old.ended ≡ None }
+        requires zero { length program.now.zero ≡ self.old.zero_length }
+        requires one { length program.now.one ≡ self.old.one_length }
+        requires same { IfSome self.old.op (λ op. operation_at program.now self.old.state ≡ Some op) }
+        requires serves { VpServes self.old (P.seat port.old) }
+        ensures turned { self.old.started ≡ true → TurnsBy (rest_of self.old (operation_at program.now self.old.state)) (operation_at program.now self.old.state) self.old (P.seat port.old) self.new (P.seat port.new) result }
+        ensures woken { self.old.started ≡ false → Wakes self.old (P.seat port.old) self.new (P.seat port.new) result }
+        ensures serves { VpServes self.new (P.seat port.new) }
+        ensures short { All IsShort (new_marks self.old self.new) }
+        ensures same { IsSameProcessor self.old self.new }
+        ensures kept { IfSome self.new.op (λ op. operation_at program.now self.new.state ≡ Some op) }
+        ensures within { length self.new.marks ≤ self.old.limits.budget }
+    {
+        if self.started {
+            self.advance(port, program)
+        } else {
+            self.wake(port)
+        }
+    }
+
+    /// The processor's number.
+    pub fn vp(&self) -> VpIndex
+        ensures number { result.0 ≡ self.now.number }
+        ensures below { self.now.number < self.now.limits.vps }
+        ensures part { self.now.part ≤ self.now.first }
+        ensures first { self.now.first ≤ length self.now.seen }
+        ensures few { length self.now.seen ≤ self.now.first + 13 }
+    {
+        self.vp
+    }
+
+    /// Why the processor runs no more, if it doesn't.
+    pub fn ended(&self) -> Option<Ending>
+        ensures { result ≡ self.now.ended }
+    {
+        self.log.ended
+    }
+
+    /// The marks so far, oldest first. The last may be that of a spin that found another value, which goes at the next
+    /// turn.
+    pub fn marks(&self) -> &[Mark]
+        ensures { result.now ≡ self.now.marks }
+    {
+        self.log.marks.as_slice()
+    }
+
+    /// The events so far, oldest first.
+    pub fn seen(&self) -> &[Event]
+        ensures { result.now ≡ self.now.seen }
+    {
+        self.log.seen.as_slice()
+    }
+
+    /// The registers.
+    pub fn bank(&self) -> &Bank
+        ensures { result.now ≡ self.now.state.registers }
+    {
+        &self.bank
+    }
+
+    /// The marks and the events, oldest first.
+    pub fn into_lists(self) -> (Items<Mark>, Items<Event>)
+        ensures marks { result.0 ≡ self.marks }
+        ensures seen { result.1 ≡ self.seen }
+    {
+        let Cpu { log, .. } = self;
+        let Log { marks, seen, .. } = log;
+        (marks.into_items(), seen.into_items())
     }
 }

@@ -38,5 +38,6 @@ invariant_of-self-in-None c =
       running = v.running;
       spins = λ e. spins-on _ i.log.spins (v.spins going) (sym c.ending_on.ensures ∙ c.in-None.is);
       waits = λ e. let none : op_of None ≡ Some c.args.op = rw (v.waits e) at op in cc;
+      fresh = λ e. let none : op_of None ≡ Some c.args.op = rw (v.waits e) at op in cc;
       means = begun-under i.limits.pages (state_of i.bank i.active) _ i.log.seen.0 i.log.part _ refl (tidy-begun i.log.part _ (state_of i.bank i.active) c.args.op c.begin-stage.result _ c.begin-stage.ensures.rest c.begin-stage.ensures.idle asks) c.begin-stage.ensures.is c.begin-stage.ensures.rest c.begin-stage.ensures.idle;
     })

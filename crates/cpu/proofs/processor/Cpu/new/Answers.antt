@@ -21,5 +21,6 @@ invariant_of-result c = record {
       rw (c.opening.ensures.opening, rip-opening) (ran_out-none c.len-zero_length.result c.args.limits.now.budget c.requires.budget_some runs);
   spins = λ e. spins-open;
   waits = λ e. refl;
+  fresh = λ e. refl;
   means = (rw c.in_ok-seen.ensures refl, refl);
 }

@@ -11,7 +11,7 @@ returns-in_default-stage c =
     let u = c.in-Some.under in
     let m = rw c.in-Some.is at c.self.invariant.means in
     let asks = stage-asks (state_of i.bank i.active) u.op u.stage _ m.rest c.in_default-stage.not-End in
-    rw (← c.self.view_is, c.in-Some.is, asks.2) (record { new = refl; turn = refl; short = none-new IsShort i.log.marks.0; phase = refl })
+    rw (← c.self.view_is, c.in-Some.is, asks.2) (record { new = refl; turn = refl; short = none-new IsShort i.log.marks.0; phase = refl; same = record { number = refl; limits = refl; zero_length = refl; one_length = refl; started = refl }; kept = (refl, refl); within = c.self.invariant.marks_few })
 
 pub mark_again-requires-clause-asks : goal.mark_again-requires-clause-asks
 mark_again-requires-clause-asks c = λ o.
