@@ -88,3 +88,15 @@ returns-clause-serves g c =
       limits = ap (λ (z : Seat). z.limits) st.makes.after ∙ limits ∙ sym c.settle-2.ensures.same.limits;
       vp = ap (λ (z : Seat). z.vp) st.makes.after ∙ vp ∙ sym c.settle-2.ensures.same.number;
     }
+
+pub returns-clause-name : goal.returns-clause-name
+returns-clause-name g c =
+    let i = c.self.inside in
+    let w = c.self.invariant in
+    let u = c.begun-under.result in
+    let old = g.P.Port.seat c.args.port.now in
+    let new = g.P.Port.seat c.step-step.new.port in
+    let steps : StageSteps u.stage old new c.step-step.result = c.step-step.ensures in
+    let phase : old.phase ≡ phase_at i.log.seen.0 i.log.first = rw (← c.self.view_is) at c.requires.serves.phase in
+    let st = stepped i.limits.pages (state_of i.bank i.active) u i.log.seen.0 i.log.part i.log.first old new c.step-step.result w.part_le w.first_le phase (c.begun-under.ensures.means i.log.seen.0 i.log.part i.log.first w.means) steps in
+    ap (λ (z : Seat). z.name) st.makes.after
