@@ -1,37 +1,44 @@
 -- Walking a schedule step by step comes to what whole attempts come to.
-use Rattle.std.proofs.Common.{◌≡◌, ◌<◌, ◌≤◌, ◌+◌, ◌*◌, ℕ, zero, suc, Bool, true, false, cond, is_some, Option, Some, None, List, [], ◌∷◌, ◌++◌, fold, length, take, drop, replicate, slice_get, slice_index, refl, sym, ap, ◌∙◌, subst, append_assoc, ◌-◌, arith}
-use Rattle.std.proofs.lemmas.List.{length-append, length-replicate, length-set, get_or-append_right, get_or-replicate}
+use Rattle.std.proofs.Common.{◌≡◌, ◌<◌, ◌+◌, ◌*◌, ◌-◌, ℕ, zero, suc, Bool, true, false, cond, Option, Some, None, List, [], ◌∷◌, ◌++◌, fold, length, map, take, drop, replicate, slice_get, slice_index, slice_set, refl, sym, ap, ◌∙◌, subst, append_assoc, zero-add, arith}
+use Rattle.std.specs.List.{range_with_len}
+use Rattle.std.proofs.lemmas.List.{length-append, length-replicate, get_or-append_right, get_or-replicate, drop-append-le, drop-replicate}
+use Rattle.std.proofs.lemmas.List.FromFn.{length-map-range_with_len, get_or-map-range_with_len}
+use Rattle.std.proofs.lemmas.Option.{slice_get_within, get_or_from_slice_get}
 use Rattle.std.proofs.Math.ListN.{get_or-append}
-use Rattle.std.proofs.Math.Seq.{take-append_seam, drop-append_seam}
-use Rattle.vsm_base.specs.declared.places.Page.{Page}
+use Rattle.std.proofs.Math.Seq.{take-append_seam, drop-append_seam, drop-append-add}
+use Rattle.vsm_base.specs.declared.places.Limits.{Limits}
 use Rattle.vsm_core.specs.declared.operation.Op.{Op}
 use Rattle.vsm_core.specs.declared.operation.Program.{Program}
-use Rattle.vsm_base.specs.declared.places.Limits.{Limits}
-use Rattle.vsm_core.specs.State.{State, rip_of}
+use Rattle.vsm_core.specs.State.{State}
 use Rattle.vsm_core.specs.Attempt.{Outcome}
-use Rattle.vsm_core.specs.Processor.{Vp, tree_of, settled, attempted}
-use Rattle.vsm_core.specs.Tree.{Tree, Ends, Asks, Wants}
-use Rattle.vsm_core.specs.Whole.{Stop, run_on}
-use Rattle.vsm_core.specs.Words.{Holds, SameStop, steps_on, memory_at}
+use Rattle.vsm_core.specs.Processor.{Vp, Did, tree_of, operation_at, did_stop, stopped_at, attempted}
+use Rattle.vsm_core.specs.Whole.{Flat, Stop, run_on}
+use Rattle.vsm_core.specs.Words.{Holds, SameStop, steps_on, memory_at, posted_at}
 use Rattle.vsm_core.proofs.SameAnswers.{attempt-same}
 use Rattle.guest_script.specs.declared.script.Turns.{Turns}
 use Rattle.guest_script.specs.declared.script.Script.{Script}
-use Rattle.vsm_report.specs.Schedule.{after_turns, after_entry, after_line, after_schedule}
+use Rattle.guest_script.specs.Programs.{program_at}
 use Rattle.guest_script.specs.Within.{IsWithin}
-use Rattle.vsm_report.specs.Opening.{opening_masks, opening_words, with_mask}
-use Rattle.vsm_report.specs.FlatRun.{World, acted, with_attempt, new_lines, first_program, opened, track_of, ending_of, report_of, flat}
-use Rattle.vsm_report.specs.Trace.{Stepped, stepped, with_stop, opening_shared, stepped_opening, stepped_report, traced}
+use Rattle.vsm_report.specs.Acting.{opening_vp, opening_vps, is_running, new_lines, with_attempt, acted_at}
+use Rattle.vsm_report.specs.Schedule.{after_turns, after_entry, after_line, after_schedule}
+use Rattle.vsm_report.specs.Opening.{opening_masks, opening_words}
+use Rattle.vsm_report.specs.FlatRun.{World, acted, opening_flat, opened, report_of, flat}
+use Rattle.vsm_report.specs.Trace.{Stepped, made_steps, stepped, opening_shared, stepped_opening, stepped_report, traced}
+use Rattle.vsm_report.proofs.MaskTurns.{length-fold-with_mask}
+use Rattle.vsm_report.proofs.Processors.{stopped_at-same, places-set}
 
--- what a schedule keeps of two worlds that act alike
-module _ {V W : Type 0} (R : V → W → Type 0) (f : V → V) (g : W → W) (acts : (v : V) (w : W) → R v w → R (f v) (g w)) where
-  turns_alike : (count : ℕ) (v : V) (w : W) → R v w → R (after_turns f count v) (after_turns g count w)
-  unfolding after_turns
-  turns_alike zero v w r = r
-  turns_alike (suc count) v w r = turns_alike count (f v) (g w) (acts v w r)
+-- what one processor's turns keep of two worlds in which it acts alike
+turns_alike : {V W : Type 0} (R : V → W → Type 0) (f : V → V) (g : W → W) → ((v : V) (w : W) → R v w → R (f v) (g w)) → (count : ℕ) (v : V) (w : W) → R v w → R (after_turns f count v) (after_turns g count w)
+unfolding after_turns
+turns_alike R f g acts zero v w r = r
+turns_alike R f g acts (suc count) v w r = turns_alike R f g acts count (f v) (g w) (acts v w r)
 
+-- what a schedule keeps of two worlds in which processors act alike
+module _ {V W : Type 0} (R : V → W → Type 0) (f : ℕ → V → V) (g : ℕ → W → W) (acts : (p : ℕ) (v : V) (w : W) → R v w → R (f p v) (g p w)) where
   line_alike : (entries : List Turns) (v : V) (w : W) → R v w → R (fold (after_entry f) v entries) (fold (after_entry g) w entries)
   line_alike [] v w r = r
-  line_alike (t ∷ entries) v w r = line_alike entries (after_turns f t.count v) (after_turns g t.count w) (turns_alike t.count v w r)
+  line_alike (t ∷ entries) v w r =
+      line_alike entries (after_entry f v t) (after_entry g w t) (turns_alike R (f t.vp.0) (g t.vp.0) (acts t.vp.0) t.count v w r)
 
   lines_alike : (lines : List (List Turns)) (v : V) (w : W) → R v w → R (fold (after_line f) v lines) (fold (after_line g) w lines)
   unfolding after_line
@@ -42,88 +49,124 @@ module _ {V W : Type 0} (R : V → W → Type 0) (f : V → V) (g : W → W) (ac
   unfolding after_schedule
   schedule_alike lines v w r = lines_alike lines v w r
 
--- the same processor and lines, and shared words that hold the masks and the memory
+-- a processor of these limits, with the number of its place
+pub record IsPlaced (limits : Limits) (p : ℕ) (v : Vp) : Type 0 where
+  pub limits_same : v.limits ≡ limits
+  pub number : v.number ≡ p
+  pub low : p < limits.vps
+
+-- the same processors and lines, and shared words that hold what whole attempts work on
 pub record Alike (limits : Limits) (v : Stepped) (w : World) : Type 0 where
-  pub vp : v.vp ≡ w.vp
+  pub vps : v.vps ≡ w.vps
   pub lines : v.lines ≡ w.lines
-  pub holds : Holds limits v.words w.masks 0 w.words
-  pub within : w.vp.limits ≡ limits
-  pub low : w.vp.number < limits.vps
+  pub holds : Holds limits v.words w.words
+  pub placed : (p : ℕ) (u : Vp) → slice_get w.vps p ≡ Some u → IsPlaced limits p u
 
-tree-same : (limits : Limits) (p : ℕ) (state : State) (op : Option Op) (words masks memory : List ℕ) → p < limits.vps → Holds limits words masks 0 memory
-    → SameStop limits masks 0 (steps_on limits p words (tree_of limits.pages state op)) (run_on masks 0 memory (tree_of limits.pages state op))
-tree-same limits p state None words masks memory low h = record { at = refl; holds = h }
-tree-same limits p state (Some op) words masks memory low h = attempt-same limits p state op words masks 0 memory low h
+tree-same : (limits : Limits) (p : ℕ) (state : State) (op : Option Op) (words : List ℕ) (flat : Flat) → p < limits.vps → Holds limits words flat
+    → SameStop limits (steps_on limits p words (tree_of limits.pages state op)) (run_on limits p flat (tree_of limits.pages state op))
+tree-same limits p state None words flat low h = record { at = refl; events = refl; holds = h }
+tree-same limits p state (Some op) words flat low h = attempt-same limits p state op words flat low h
 
-settled-same : (v : Vp) (t : Tree Outcome) → ((settled v t).limits ≡ v.limits) × ((settled v t).number ≡ v.number)
-settled-same v (Ends o) = (refl, refl)
-settled-same v (Asks s k) = (refl, refl)
-settled-same v (Wants q k) = (refl, refl)
+-- two attempts of one processor that come to the same
+record SameDid (limits : Limits) (p : ℕ) (steps : Did (List ℕ)) (whole : Did Flat) : Type 0 where
+  vp : steps.vp ≡ whole.vp
+  holds : Holds limits steps.words whole.words
+  placed : IsPlaced limits p whole.vp
 
--- one attempt of a processor that has not ended
-attempt_alike : (limits : Limits) (program : Program) (v : Stepped) (w : World) → Alike limits v w
-    → Alike limits (with_stop v (steps_on v.vp.limits v.vp.number v.words (tree_of v.vp.limits.pages v.vp.state (slice_get program.zero (rip_of v.vp.state))))) (with_attempt w (attempted program w.masks 0 w.vp w.words))
-unfolding attempted
-attempt_alike limits program v w r =
-    let stop : Stop Outcome = run_on w.masks 0 w.words (tree_of w.vp.limits.pages w.vp.state (slice_get program.zero (rip_of w.vp.state))) in
-    let steps : Vp → Stop Outcome = λ u. steps_on u.limits u.number v.words (tree_of u.limits.pages u.state (slice_get program.zero (rip_of u.state))) in
-    let low : w.vp.number < w.vp.limits.vps = subst (λ (l : Limits). w.vp.number < l.vps) (sym r.within) r.low in
-    let same : SameStop w.vp.limits w.masks 0 (steps w.vp) stop = tree-same w.vp.limits w.vp.number w.vp.state (slice_get program.zero (rip_of w.vp.state)) v.words w.masks w.words low (subst (λ l. Holds l v.words w.masks 0 w.words) (sym r.within) r.holds) in
-    let from : SameStop limits w.masks 0 (steps v.vp) stop = subst (λ u. SameStop limits w.masks 0 (steps u) stop) (sym r.vp) (subst (λ l. SameStop l w.masks 0 (steps w.vp) stop) r.within same) in
-    let vp : settled v.vp (steps v.vp).at ≡ settled w.vp stop.at = ap (λ u. settled u (steps v.vp).at) r.vp ∙ ap (settled w.vp) from.at in
-    let kept = settled-same w.vp stop.at in
+did-same : (limits : Limits) (p : ℕ) (op : Option Op) (v : Vp) (steps : Stop Outcome (List ℕ)) (whole : Stop Outcome Flat) → IsPlaced limits p v → SameStop limits steps whole → SameDid limits p (did_stop op v steps) (did_stop op v whole)
+did-same limits p op v steps whole is same =
+    let kept = stopped_at-same op v whole.events whole.at in
     record {
-      vp = vp;
-      lines = ap (λ ls. ls ++ new_lines v.vp (settled v.vp (steps v.vp).at)) r.lines ∙ ap (λ u. w.lines ++ new_lines u (settled v.vp (steps v.vp).at)) r.vp ∙ ap (λ u. w.lines ++ new_lines w.vp u) vp;
-      holds = from.holds;
-      within = kept.0 ∙ r.within;
-      low = subst (λ n. n < limits.vps) (sym kept.1) r.low;
+      vp = ap (λ es. stopped_at op v es steps.at) same.events ∙ ap (stopped_at op v whole.events) same.at;
+      holds = same.holds;
+      placed = record { limits_same = kept.limits ∙ is.limits_same; number = kept.number ∙ is.number; low = is.low };
     }
 
-either : (limits : Limits) (b c : Bool) (v v' : Stepped) (w w' : World) → b ≡ c → Alike limits v w → Alike limits v' w' → Alike limits (cond b v v') (cond c w w')
-either limits b c v v' w w' e r s =
-    subst (λ d. Alike limits (cond b v v') (cond d w w')) e (elim b as (λ d. Alike limits (cond d v v') (cond d w w')) [ true ↦ r | false ↦ s ])
+attempt-did : (limits : Limits) (program : Program) (p : ℕ) (v : Vp) (words : List ℕ) (flat : Flat) → IsPlaced limits p v → Holds limits words flat → SameDid limits p (made_steps program v words) (attempted program v flat)
+unfolding made_steps attempted
+attempt-did limits program p v words flat is h =
+    let op = operation_at program v.state in
+    let low : v.number < v.limits.vps = subst (λ (l : Limits). v.number < l.vps) (sym is.limits_same) (subst (λ n. n < limits.vps) (sym is.number) is.low) in
+    let held : Holds v.limits words flat = subst (λ l. Holds l words flat) (sym is.limits_same) h in
+    let same : SameStop v.limits (steps_on v.limits v.number words (tree_of v.limits.pages v.state op)) (run_on v.limits v.number flat (tree_of v.limits.pages v.state op)) = tree-same v.limits v.number v.state op words flat low held in
+    did-same limits p op v _ _ is (subst (λ l. SameStop l (steps_on v.limits v.number words (tree_of v.limits.pages v.state op)) (run_on v.limits v.number flat (tree_of v.limits.pages v.state op))) is.limits_same same)
 
-pub acts_alike : (limits : Limits) (program : Program) (v : Stepped) (w : World) → Alike limits v w → Alike limits (stepped program v) (acted program w)
+-- two worlds after the same attempt
+with_attempt-alike : (limits : Limits) (p : ℕ) (v : Stepped) (w : World) (u : Vp) (steps : Did (List ℕ)) (whole : Did Flat) → Alike limits v w → SameDid limits p steps whole → Alike limits (with_attempt p v u steps) (with_attempt p w u whole)
+with_attempt-alike limits p v w u steps whole r same = record {
+  vps = ap (λ us. slice_set us p steps.vp) r.vps ∙ ap (slice_set w.vps p) same.vp;
+  lines = ap (λ ls. ls ++ new_lines p u steps.vp) r.lines ∙ ap (λ x. w.lines ++ new_lines p u x) same.vp;
+  holds = same.holds;
+  placed = places-set (IsPlaced limits) w.vps p whole.vp same.placed r.placed;
+}
+
+either : (limits : Limits) (b : Bool) (v v' : Stepped) (w w' : World) → Alike limits v w → Alike limits v' w' → Alike limits (cond b v v') (cond b w w')
+either limits true v v' w w' r s = r
+either limits false v v' w w' r s = s
+
+-- the processor that stands at a place acts, if there is one
+acted_at-alike : (limits : Limits) (program : Program) (p : ℕ) (v : Stepped) (w : World) (u : Option Vp) → slice_get w.vps p ≡ u → Alike limits v w → Alike limits (acted_at made_steps program p v u) (acted_at attempted program p w u)
+acted_at-alike limits program p v w None e r = r
+acted_at-alike limits program p v w (Some u) e r =
+    either limits (is_running u) _ v _ w (with_attempt-alike limits p v w u _ _ r (attempt-did limits program p u v.words w.words (r.placed p u e) r.holds)) r
+
+acts_alike : (limits : Limits) (programs : List Program) (p : ℕ) (v : Stepped) (w : World) → Alike limits v w → Alike limits (stepped programs p v) (acted programs p w)
 unfolding stepped acted
-acts_alike limits program v w r =
-    either limits (is_some v.vp.ended) (is_some w.vp.ended) v _ w _ (ap (λ (u : Vp). is_some u.ended) r.vp) r (attempt_alike limits program v w r)
+acts_alike limits programs p v w r =
+    subst (λ u. Alike limits (acted_at made_steps (program_at programs p) p v u) (acted programs p w)) (sym (ap (λ us. slice_get us p) r.vps)) (acted_at-alike limits (program_at programs p) p v w (slice_get w.vps p) refl r)
+
+-- zeros behind other zeros are still zeros
+zeros-behind : (n m : ℕ) (masks memory : List ℕ) → take n (drop (length masks + m) (masks ++ (replicate (n + m) 0 ++ memory))) ≡ replicate n 0
+zeros-behind n m masks memory =
+    let zeros : List ℕ = replicate (n + m) 0 in
+    let left : n + m - m ≡ n = omega arith in
+    ap (take n) (drop-append-add masks (zeros ++ memory) m ∙ drop-append-le m zeros memory (omega (arith, length-replicate {A = ℕ} (n + m) 0)) ∙ ap (λ zs. zs ++ memory) (drop-replicate m (n + m) 0 ∙ ap (λ k. replicate k 0) left))
+    ∙ ap (λ k. take k (replicate n 0 ++ memory)) (sym (length-replicate n 0)) ∙ take-append_seam (replicate n 0) memory
 
 -- the shared words at the opening
-holds_opening : (limits : Limits) (masks zeros memory : List ℕ) → length masks ≡ limits.pages → length zeros ≡ 1 + 10 * limits.vps → slice_index zeros 0 ≡ 0 → Holds limits (masks ++ (zeros ++ memory)) masks 0 memory
-holds_opening limits masks zeros memory m z first =
+holds_opening : (limits : Limits) (masks memory : List ℕ) → length masks ≡ limits.pages
+    → Holds limits (masks ++ (replicate (1 + 10 * limits.vps) 0 ++ memory)) (record { masks = masks; generation = 0; posted = replicate (9 * limits.vps) 0; memory = memory })
+holds_opening limits masks memory m =
+    let zeros : List ℕ = replicate (1 + 10 * limits.vps) 0 in
+    let many : length zeros ≡ 1 + 10 * limits.vps = length-replicate (1 + 10 * limits.vps) 0 in
     let here : limits.pages - limits.pages ≡ 0 = omega arith in
     let far : memory_at limits ≡ length (masks ++ zeros) = omega (arith, length-append masks zeros) in
+    let behind : posted_at limits ≡ length masks + (1 + limits.vps) = omega arith in
+    let rest : 1 + 10 * limits.vps ≡ 9 * limits.vps + (1 + limits.vps) = omega arith in
     record {
       of_masks = ap (λ n. take n (masks ++ (zeros ++ memory))) (sym m) ∙ take-append_seam masks (zeros ++ memory);
-      of_generation = get_or-append_right masks (zeros ++ memory) limits.pages limits.pages 0 m (omega arith) ∙ ap (λ i. slice_index (zeros ++ memory) i) here ∙ get_or-append zeros memory 0 0 (omega arith) ∙ first;
+      of_generation = get_or-append_right masks (zeros ++ memory) limits.pages limits.pages 0 m (omega arith) ∙ ap (λ i. slice_index (zeros ++ memory) i) here ∙ get_or-append zeros memory 0 0 (omega arith) ∙ get_or-replicate (1 + 10 * limits.vps) 0 0 0 (omega arith);
+      of_posted = ap (λ n. take (9 * limits.vps) (drop n (masks ++ (zeros ++ memory)))) behind ∙ ap (λ n. take (9 * limits.vps) (drop (length masks + (1 + limits.vps)) (masks ++ (replicate n 0 ++ memory)))) rest ∙ zeros-behind (9 * limits.vps) (1 + limits.vps) masks memory;
       of_memory = ap (λ n. drop n (masks ++ (zeros ++ memory))) far ∙ ap (λ ws. drop (length (masks ++ zeros)) ws) (sym (append_assoc masks zeros memory)) ∙ drop-append_seam (masks ++ zeros) memory;
     }
 
-length-fold : (masks : List ℕ) (given : List (Page × ℕ)) → length (fold with_mask masks given) ≡ length masks
-length-fold masks [] = refl
-length-fold masks (m ∷ given) = length-fold (with_mask masks m) given ∙ length-set masks m.0.0 m.1
-
 length-opening_masks : (s : Script) → length (opening_masks s) ≡ s.limits.pages
 unfolding opening_masks
-length-opening_masks s = length-fold (replicate s.limits.pages 15) s.masks ∙ length-replicate s.limits.pages 15
+length-opening_masks s = length-fold-with_mask (replicate s.limits.pages 15) s.masks ∙ length-replicate s.limits.pages 15
 
-opened_alike : (s : Script) → 1 ≤ s.limits.vps → Alike s.limits (stepped_opening s) (opened s)
-unfolding stepped_opening opened opening_shared
-opened_alike s some = record {
-  vp = refl;
+opening-placed : (s : Script) → length s.programs ≡ s.limits.vps → (p : ℕ) (u : Vp) → slice_get (opening_vps s) p ≡ Some u → IsPlaced s.limits p u
+unfolding opening_vps
+opening-placed s all p u e =
+    let n = length s.programs in
+    let low : p < n = subst (λ k. p < k) (length-map-range_with_len (opening_vp s) 0 n) (slice_get_within (map (opening_vp s) (range_with_len 0 n)) p u e) in
+    let is : opening_vp s p ≡ u = sym (get_or-map-range_with_len (opening_vp s) 0 n p p u low (zero-add p)) ∙ get_or_from_slice_get (map (opening_vp s) (range_with_len 0 n)) p u u e in
+    subst (IsPlaced s.limits p) is (record { limits_same = refl; number = refl; low = subst (λ k. p < k) all low })
+
+opened_alike : (s : Script) → length s.programs ≡ s.limits.vps → Alike s.limits (stepped_opening s) (opened s)
+unfolding stepped_opening opened opening_shared opening_flat
+opened_alike s all = record {
+  vps = refl;
   lines = refl;
-  holds = holds_opening s.limits (opening_masks s) (replicate (1 + 10 * s.limits.vps) 0) (opening_words s) (length-opening_masks s) (length-replicate (1 + 10 * s.limits.vps) 0) (get_or-replicate (1 + 10 * s.limits.vps) 0 0 0 (omega arith));
-  within = refl;
-  low = some;
+  holds = holds_opening s.limits (opening_masks s) (opening_words s) (length-opening_masks s);
+  placed = opening-placed s all;
 }
 
 same_report : (s : Script) (v : Stepped) (w : World) → Alike s.limits v w → stepped_report s v ≡ report_of w
 same_report s v w r =
-    let l = r.lines in let t = ap track_of r.vp in let e = ap ending_of r.vp in let m = r.holds.of_masks in let h = r.holds.of_memory in rw (l, t, e, m, h) refl
+    let u = r.vps in let l = r.lines in let m = r.holds.of_masks in let h = r.holds.of_memory in rw (l, u, m, h) refl
 
 -- the report of walking a schedule step by step is that of the flat run
 pub traced-flat : (s : Script) → IsWithin s → traced s ≡ flat s
 unfolding traced flat
 traced-flat s within =
-    same_report s _ _ (schedule_alike (Alike s.limits) (stepped (first_program s)) (acted (first_program s)) (acts_alike s.limits (first_program s)) s.schedule (stepped_opening s) (opened s) (opened_alike s within.vps_some))
+    same_report s _ _ (schedule_alike (Alike s.limits) (stepped s.programs) (acted s.programs) (acts_alike s.limits s.programs) s.schedule (stepped_opening s) (opened s) (opened_alike s within.programs))

@@ -1,3 +1,4 @@
+pub mod Acting
 pub mod FlatRun
 pub mod Gathering
 pub mod Journal

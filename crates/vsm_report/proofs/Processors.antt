@@ -1,0 +1,66 @@
+-- A processor stays the one that it was made as, at its place in a list.
+use Rattle.std.proofs.Common.{◌≡◌, ◌≢◌, ◌<◌, ◌⊎◌, inl, inr, eqb, ℕ, true, false, Option, Some, None, List, [], ◌∷◌, fold, length, get_or, slice_get, slice_set, refl, sym, ap, ◌∙◌, subst}
+use Rattle.std.proofs.lemmas.Bool.Decides.{eqb_tells}
+use Rattle.std.proofs.lemmas.Grind.{get_or-set_at}
+use Rattle.std.proofs.lemmas.List.{length-set, get_or-set_other}
+use Rattle.std.proofs.lemmas.Option.{slice_get_within, slice_get-get_or, get_or_from_slice_get}
+use Rattle.vsm_core.specs.declared.event.Event.{Event}
+use Rattle.vsm_core.specs.declared.event.Event.TheVariants as events
+use Rattle.vsm_core.specs.declared.mark.Ending.{Ending}
+use Rattle.vsm_core.specs.declared.mark.What.{What}
+use Rattle.vsm_core.specs.declared.mark.What.TheVariants.{Again}
+use Rattle.vsm_core.specs.declared.operation.Op.{Op}
+use Rattle.vsm_core.specs.Attempt.{Outcome}
+use Rattle.vsm_core.specs.Processor.{Vp, IsSameProcessor, saw, came_to, marked_or_ended, settled, stopped_at}
+use Rattle.vsm_core.specs.Tree.{Tree, Ends, Asks, Wants}
+
+same_by : (v u w : Vp) → IsSameProcessor v u → IsSameProcessor u w → IsSameProcessor v w
+same_by v u w h g = record {
+  number = g.number ∙ h.number;
+  limits = g.limits ∙ h.limits;
+  zero_length = g.zero_length ∙ h.zero_length;
+  one_length = g.one_length ∙ h.one_length;
+  started = g.started ∙ h.started;
+}
+
+itself : (v : Vp) → IsSameProcessor v v
+itself v = record { number = refl; limits = refl; zero_length = refl; one_length = refl; started = refl }
+
+saw-same : (op : Option Op) (v : Vp) (e : Event) → IsSameProcessor v (saw op v e)
+saw-same op v (events.Check generation) = record { number = refl; limits = refl; zero_length = refl; one_length = refl; started = refl }
+saw-same op v _ = record { number = refl; limits = refl; zero_length = refl; one_length = refl; started = refl }
+
+fold-saw-same : (op : Option Op) (v : Vp) (es : List Event) → IsSameProcessor v (fold (saw op) v es)
+fold-saw-same op v [] = itself v
+fold-saw-same op v (e ∷ es) = same_by v (saw op v e) _ (saw-same op v e) (fold-saw-same op (saw op v e) es)
+
+marked_or_ended-same : (v : Vp) (o : Outcome) (ending : Option Ending) → IsSameProcessor v (marked_or_ended v o ending)
+marked_or_ended-same v o None = record { number = refl; limits = refl; zero_length = refl; one_length = refl; started = refl }
+marked_or_ended-same v o (Some ending) = record { number = refl; limits = refl; zero_length = refl; one_length = refl; started = refl }
+
+came_to-same : (what : What) (v : Vp) (o : Outcome) → IsSameProcessor v (came_to what v o)
+came_to-same (Again grant) v o = marked_or_ended-same v o _
+came_to-same _ v o = record { number = refl; limits = refl; zero_length = refl; one_length = refl; started = refl }
+
+settled-same : (t : Tree Outcome) (v : Vp) → IsSameProcessor v (settled t v)
+settled-same (Ends o) v = came_to-same o.what v o
+settled-same (Asks s k) v = itself v
+settled-same (Wants q k) v = itself v
+
+-- whatever an attempt saw and came to
+pub stopped_at-same : (op : Option Op) (v : Vp) (es : List Event) (at : Tree Outcome) → IsSameProcessor v (stopped_at op v es at)
+stopped_at-same op v es at = same_by v (fold (saw op) v es) _ (fold-saw-same op v es) (settled-same at (fold (saw op) v es))
+
+-- what holds of each element by its place holds when one is set for which it holds
+pub places-set : {X : Type 0} (P : ℕ → X → Type 0) (xs : List X) (i : ℕ) (y : X) → P i y → ((j : ℕ) (x : X) → slice_get xs j ≡ Some x → P j x) → (j : ℕ) (x : X) → slice_get (slice_set xs i y) j ≡ Some x → P j x
+places-set P xs i y is all j x e = go (eqb_tells j i) where
+  within : j < length xs
+  within = subst (λ n. j < n) (length-set xs i y) (slice_get_within (slice_set xs i y) j x e)
+  found : get_or (slice_set xs i y) j x ≡ x
+  found = get_or_from_slice_get (slice_set xs i y) j x x e
+  go : ((eqb j i ≡ true) × (j ≡ i)) ⊎ ((eqb j i ≡ false) × (j ≢ i)) → P j x
+  go (inl here) =
+      let same : y ≡ x = sym (get_or-set_at xs i j y x here.1 (subst (λ n. n < length xs) here.1 within)) ∙ found in
+      subst (λ k. P k x) (sym here.1) (subst (P i) same is)
+  go (inr other) =
+      all j x (slice_get-get_or xs j x within ∙ ap Some (sym (get_or-set_other xs i j y x other.1) ∙ found))

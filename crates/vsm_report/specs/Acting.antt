@@ -1,0 +1,73 @@
+-- A run under way, and what a processor's whole attempt does to it, whatever the attempt works on.
+use Rattle.std.specs.Prelude.{ℕ, Bool, false, not, ◌&&◌, List, [], ◌++◌, length, map, Option, Some, None, if◌then◌else◌, nat_lt, is_some, unwrap_or, slice_get, slice_set}
+use Rattle.std.specs.List.{range_with_len}
+use Rattle.vsm_core.specs.declared.mark.Mark.{Mark}
+use Rattle.vsm_core.specs.declared.mark.Ending.{Ending}
+use Rattle.vsm_core.specs.declared.mark.Ending.TheVariants as endings
+use Rattle.vsm_core.specs.declared.operation.Program.{Program}
+use Rattle.vsm_core.specs.Processor.{Vp, Did, opening, new_marks}
+use Rattle.guest_script.specs.declared.script.Script.{Script}
+use Rattle.guest_script.specs.Programs.{program_at}
+use Rattle.vsm_report.specs.declared.report.Line.{Line}
+use Rattle.vsm_report.specs.declared.report.Line.TheVariants as made
+use Rattle.vsm_report.specs.declared.report.Track.{Track}
+use Rattle.vsm_report.specs.declared.report.Report.{Report}
+
+-- the words on which attempts work, the processors, each at the place of its number, and the lines so far
+pub record WorldOf (W : Type 0) : Type 0 where
+  pub words : W
+  pub vps : List Vp
+  pub lines : List Line
+
+-- the processor of this number before its first attempt
+abbrev pub opening_vp : Script → ℕ → Vp
+opening_vp s p = opening p s.limits (nat_lt p s.started) (length (program_at s.programs p).zero) (length (program_at s.programs p).one)
+
+-- a processor for each program
+unfoldable pub opening_vps : Script → List Vp
+opening_vps s = map (opening_vp s) (range_with_len 0 (length s.programs))
+
+-- a processor runs: it has started and has not ended
+abbrev pub is_running : Vp → Bool
+is_running v = v.started && not (is_some v.ended)
+
+abbrev pub mark_line : ℕ → Mark → Line
+mark_line p mark = made.Mark (record { 0 = p }) mark
+
+-- the lines of the marks that the processor of this number has left since it was so
+abbrev pub new_lines : ℕ → Vp → Vp → List Line
+new_lines p old new = map (mark_line p) (new_marks old new)
+
+-- the world after this attempt of the processor of this number, which was so before
+abbrev pub with_attempt : {W : Type 0} → ℕ → WorldOf W → Vp → Did W → WorldOf W
+with_attempt p w v did = record { words = did.words; vps = slice_set w.vps p did.vp; lines = w.lines ++ new_lines p v did.vp }
+
+module _ {W : Type 0} (attempt : Program → Vp → W → Did W) where
+  -- a processor that runs makes its whole attempt over the words as they stand; any other does nothing
+  abbrev pub acted_at : Program → ℕ → WorldOf W → Option Vp → WorldOf W
+  acted_at program p w None = w
+  acted_at program p w (Some v) = if is_running v then with_attempt p w v (attempt program v w.words) else w
+
+  -- the processor of this number acts, if there is one
+  abbrev pub acted_by : List Program → ℕ → WorldOf W → WorldOf W
+  acted_by programs p w = acted_at (program_at programs p) p w (slice_get w.vps p)
+
+-- what a processor has left
+abbrev pub track_of : Vp → Track
+track_of v = record { marks = v.marks; seen = v.seen }
+
+-- a processor that has not ended as its schedule ends is cut
+abbrev pub ending_of : Vp → Ending
+ending_of v = if v.started then unwrap_or v.ended endings.Cut else endings.Unstarted
+
+-- the report of a run by one thread, without a partition, that leaves these masks and memory words
+abbrev pub report_with : {W : Type 0} → WorldOf W → List ℕ → List ℕ → Report
+report_with w masks words = record {
+  threads = false;
+  lines = w.lines;
+  journal = [];
+  tracks = map track_of w.vps;
+  ends = map ending_of w.vps;
+  masks = masks;
+  words = words;
+}
