@@ -1,0 +1,5 @@
+pub mod Fits
+pub mod Held
+pub mod Rests
+pub mod Rooms
+pub mod Running
