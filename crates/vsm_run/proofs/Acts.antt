@@ -59,7 +59,7 @@ pub set_back : (vps : List Vp) (p : ℕ) (v : Vp) → v ≡ get_or vps p v → s
 set_back vps p v is = ap (slice_set vps p) is ∙ set-get_or vps p v
 
 -- its program
-program_here : (programs : List Program) (p : ℕ) (program : Program) → p < length programs → program ≡ get_or programs p program → program_at programs p ≡ program
+pub program_here : (programs : List Program) (p : ℕ) (program : Program) → p < length programs → program ≡ get_or programs p program → program_at programs p ≡ program
 program_here programs p program low is = get_or_default programs p (record { zero = []; one = [] }) program low ∙ sym is
 
 module _ (programs : List Program) (vps : List Vp) (p : ℕ) (program : Program) where

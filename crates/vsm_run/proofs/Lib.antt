@@ -1,2 +1,5 @@
-pub mod Attempts
 pub mod Acts
+pub mod Attempts
+pub mod First
+pub mod Reports
+pub mod Turning

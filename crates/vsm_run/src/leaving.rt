@@ -66,6 +66,13 @@ fn add_words(words: &[u64], memory: &mut Reserved<u64>)
     }
 }
 
+fn ending_of(cpu: &Cpu) -> Ending
+    requires { cpu.now.started ≡ true }
+    ensures { result ≡ ending_of cpu.now }
+{
+    cpu.ended().unwrap_or(Ending::Cut)
+}
+
 // The last argument is there for its type: the check finds the enum that an ending holds only where the signature of
 // what moves an ending names it.
 fn add_ends(cpus: &[Cpu], ends: &mut Reserved<Ending>, _fault: &[GuestFault])
@@ -74,7 +81,7 @@ fn add_ends(cpus: &[Cpu], ends: &mut Reserved<Ending>, _fault: &[GuestFault])
     ensures { ends.new ≡ (ends.old.0 ++ map ending_of cpus.now, ends.old.1) }
 {
     for cpu in cpus {
-        ends.push(cpu.ended().unwrap_or(Ending::Cut));
+        ends.push(ending_of(cpu));
     }
 }
 

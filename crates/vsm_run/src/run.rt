@@ -100,6 +100,7 @@ impl Run {
         requires fits { Fits programs.now self.old.world.vps }
         requires room { length self.old.world.lines + all_turns lines.now ≤ self.old.room }
         ensures acts { self.new.world ≡ after_schedule (stepped programs.now) self.old.world lines.now }
+        ensures fits { Fits programs.now self.new.world.vps }
         ensures limits { self.new.limits ≡ self.old.limits }
     {
         for entries in lines {
@@ -127,7 +128,7 @@ impl Run {
 fn opened(alloc: Global, script: &Script) -> Result<Run, Memory>
     requires { IsWithin script.now }
     ensures world { IfOk result (λ run. run.world ≡ stepped_opening script.now) }
-    ensures room { IfOk result (λ run. run.room ≡ all_turns script.now.schedule) }
+    ensures room { IfOk result (λ run. length run.world.lines + all_turns script.now.schedule ≤ run.room) }
     ensures limits { IfOk result (λ run. run.limits ≡ script.now.limits) }
     ensures fits { IfOk result (λ run. Fits script.now.programs run.world.vps) }
 {
