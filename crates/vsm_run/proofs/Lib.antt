@@ -3,3 +3,4 @@ pub mod Attempts
 pub mod First
 pub mod Reports
 pub mod Turning
+pub mod Wholes

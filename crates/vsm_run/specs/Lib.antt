@@ -3,3 +3,4 @@ pub mod Held
 pub mod Rests
 pub mod Rooms
 pub mod Running
+pub mod Wholes
