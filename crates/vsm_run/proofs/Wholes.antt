@@ -1,5 +1,5 @@
 -- One turn of an attempt, and its whole.
-use Rattle.std.proofs.Common.{◌≡◌, ◌≢◌, ◌≤◌, ◌+◌, ℕ, Option, Some, None, List, [], ◌∷◌, ◌++◌, length, map, take, drop, get_or, slice_set, refl, sym, ap, subst, ◌∙◌, append_assoc, length-append, length-take, length-drop, arith}
+use Rattle.std.proofs.Common.{◌≡◌, ◌≢◌, ◌⊎◌, inl, inr, ◌≤◌, ◌+◌, ℕ, Option, Some, None, List, [], ◌∷◌, ◌++◌, length, map, take, drop, get_or, slice_set, refl, sym, ap, subst, ◌∙◌, append_assoc, length-append, length-take, length-drop, arith}
 use Rattle.std.proofs.Math.Seq.{drop-append_seam, drop-length}
 use Rattle.std.proofs.lemmas.List.{drop-append-le, length-take-le, map-append, get_or-set_other}
 use Rattle.vsm_base.specs.declared.places.Limits.{Limits}
@@ -133,3 +133,81 @@ module _ (limits : Limits) (p : ℕ) (op : Option Op) where
   stopped-at-once o v n words rest is new =
       let end : IsEnd (Ends o) = record { with = o; is = refl } in
       rw new (record { did = rw rest (whole-ended (Ends o) v words end); rests = ended-rests (Ends o) v end is.part })
+
+same-some : {A : Type 0} (a b : A) → Some a ≡ Some b → a ≡ b
+same-some a b e = cc
+
+-- two ways to a fabric that tells its words, of the same processor
+pub record Tells (limits : Limits) (p : ℕ) (before now : Seat) (f g : Fabric) : Type 0 where
+  pub told : before.told ≡ Some f
+  pub tells : now.told ≡ Some g
+  pub limits_same : before.limits ≡ limits
+  pub number : before.vp ≡ p
+
+-- a step at such a way
+record Stepped (limits : Limits) (p : ℕ) (s : WordStep) (x : ℕ) (phase : Phase) (f g : Fabric) : Type 0 where
+  answer : x ≡ answer_of limits p f.words s
+  words : g.words ≡ words_by limits p f.words s
+  phases : g.phases ≡ slice_set f.phases p (phase_after phase s x)
+
+makes-told : (limits : Limits) (p : ℕ) (s : WordStep) (x : ℕ) (before now : Seat) (f g : Fabric) → Tells limits p before now f g → Makes before s x now → Stepped limits p s x before.phase f g
+makes-told limits p s x before now f g t makes =
+    let answer : x ≡ answer_of before.limits before.vp f.words s = rw t.told at makes.answer in
+    let known : Some g ≡ Some (fabric_after before.limits before.vp (phase_after before.phase s x) s f) =
+        sym t.tells ∙ ap (λ (z : Seat). z.told) makes.after ∙ ap (told_after before.limits before.vp (phase_after before.phase s x) s) t.told in
+    let is = same-some g _ known in
+    record {
+      answer = rw (t.limits_same, t.number) at answer;
+      words = ap (λ (z : Fabric). z.words) is ∙ rw (t.limits_same, t.number) refl;
+      phases = ap (λ (z : Fabric). z.phases) is ∙ ap (λ q. slice_set f.phases q (phase_after before.phase s x)) t.number;
+    }
+
+leads-moves : (turn : CpuTurn) (limits : Limits) (p : ℕ) (op : Option Op) (v n : Vp) (words now : List ℕ) → turn ≡ turns.Moved → Moves limits p op v n words now → Leads turn limits p op v n words now
+leads-moves turn limits p op v n words now e moves = rw e moves
+
+leads-stops : (turn : CpuTurn) (limits : Limits) (p : ℕ) (op : Option Op) (v n : Vp) (words now : List ℕ) → turn ≢ turns.Moved → Stops limits p op v n words now → Leads turn limits p op v n words now
+leads-stops turns.Moved limits p op v n words now e stops = absurd (e refl)
+leads-stops _ limits p op v n words now e stops = stops
+
+-- a move, or another answer
+is-move : (turn : CpuTurn) → (turn ≡ turns.Moved) ⊎ (turn ≢ turns.Moved)
+is-move turns.Moved = inl refl
+is-move turns.Idle = inr (λ e. cc)
+is-move turns.Attempt = inr (λ e. cc)
+is-move turns.Again = inr (λ e. cc)
+is-move (turns.Ended ending) = inr (λ e. cc)
+
+module _ (limits : Limits) (p : ℕ) (op : Option Op) (v n : Vp) (before now : Seat) (f g : Fabric) (turn : CpuTurn) (t : Tells limits p before now f g) (is : IsOrdered v) where
+  leads-at : (tree : Tree Outcome) → rest_of v op ≡ tree → TurnsBy tree op v before n now turn → Leads turn limits p op v n f.words g.words
+  leads-at (Ends o) rest turned =
+      let other : turn ≢ turns.Moved = λ e. mark-stops o.what n.ended (sym turned.2 ∙ e) in
+      let same : g ≡ f = same-some g f (sym t.tells ∙ ap (λ (z : Seat). z.told) turned.0 ∙ t.told) in
+      leads-stops turn limits p op v n f.words g.words other (rw same (stopped-at-once limits p op o v n f.words rest is turned.1))
+  leads-at (Asks s k) rest turned =
+      let x = turned.0 in
+      let step = makes-told limits p s x before now f g t turned.1 in
+      rw step.words (elim (is-move turn) [
+        | inl moves ↦
+            let stays = settled-moved (k x) (saw op v (made s x)) n.ended (sym turned.3 ∙ moves) in
+            leads-moves turn limits p op v n f.words _ moves (moved limits p op s k v n f.words x rest is turned.1.learns step.answer (turned.2 ∙ stays))
+        | inr other ↦
+            let end = settled-ended (k x) n.ended (λ e. other (turned.3 ∙ e)) in
+            leads-stops turn limits p op v n f.words _ other (stopped limits p op s k v n f.words x rest is step.answer turned.2 end)
+      ])
+  leads-at (Wants q k) rest turned = absurd turned
+
+  -- a turn leads on or to the end
+  pub turn-leads : TurnsBy (rest_of v op) op v before n now turn → Leads turn limits p op v n f.words g.words
+  turn-leads turned = leads-at (rest_of v op) refl turned
+
+  phases-at : (tree : Tree Outcome) → TurnsBy tree op v before n now turn → (q : ℕ) → q ≢ p → get_or g.phases q Idle ≡ get_or f.phases q Idle
+  phases-at (Ends o) turned q apart =
+      let same : g ≡ f = same-some g f (sym t.tells ∙ ap (λ (z : Seat). z.told) turned.0 ∙ t.told) in rw same refl
+  phases-at (Asks s k) turned q apart =
+      let step = makes-told limits p s turned.0 before now f g t turned.1 in
+      ap (λ phases. get_or phases q Idle) step.phases ∙ get_or-set_other f.phases p q _ Idle apart
+  phases-at (Wants q k) turned r apart = absurd turned
+
+  -- no other processor's phase changes
+  pub turn-phases : TurnsBy (rest_of v op) op v before n now turn → (q : ℕ) → q ≢ p → get_or g.phases q Idle ≡ get_or f.phases q Idle
+  turn-phases turned q apart = phases-at (rest_of v op) turned q apart
