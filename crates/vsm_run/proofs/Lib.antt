@@ -1,5 +1,6 @@
 pub mod Acts
 pub mod Attempts
+pub mod Finishes
 pub mod First
 pub mod Reports
 pub mod Turning

@@ -197,8 +197,8 @@ module _ (limits : Limits) (p : ℕ) (op : Option Op) (v n : Vp) (before now : S
   leads-at (Wants q k) rest turned = absurd turned
 
   -- a turn leads on or to the end
-  pub turn-leads : TurnsBy (rest_of v op) op v before n now turn → Leads turn limits p op v n f.words g.words
-  turn-leads turned = leads-at (rest_of v op) refl turned
+  pub turn-leads : TurnsBy (rest_of v op) op v before n now turn → (words : List ℕ) → g.words ≡ words → Leads turn limits p op v n f.words words
+  turn-leads turned words e = rw (← e) (leads-at (rest_of v op) refl turned)
 
   phases-at : (tree : Tree Outcome) → TurnsBy tree op v before n now turn → (q : ℕ) → q ≢ p → get_or g.phases q Idle ≡ get_or f.phases q Idle
   phases-at (Ends o) turned q apart =
