@@ -58,7 +58,7 @@ saw-sees : (op : Option Op) (v : Vp) (e : Event) → IsOrdered v → Sees op v (
 saw-sees op v (events.Check generation) is =
     let part = is.part in let first = is.first in
     let long : length ((take v.part v.seen ++ drop v.first v.seen) ++ events.Check generation ∷ []) + v.first ≡ length v.seen + v.part + 1 =
-        omega (arith, length-append (take v.part v.seen ++ drop v.first v.seen) (events.Check generation ∷ []), length-append (take v.part v.seen) (drop v.first v.seen), length-take-le v.part v.seen part, length-drop v.first v.seen) in
+    omega (arith, length-append (take v.part v.seen ++ drop v.first v.seen) (events.Check generation ∷ []), length-append (take v.part v.seen) (drop v.first v.seen), length-take-le v.part v.seen part, length-drop v.first v.seen) in
     record { same = record { number = refl; limits = refl; zero_length = refl; one_length = refl; started = refl }; state = refl; kept = refl; ended = refl; ordered = record { part = omega arith; first = omega arith }; nearer = long }
 saw-sees op v e is =
     let part = is.part in let first = is.first in let long = length-append v.seen (e ∷ []) in
@@ -154,7 +154,7 @@ makes-told : (limits : Limits) (p : ℕ) (s : WordStep) (x : ℕ) (before now : 
 makes-told limits p s x before now f g t makes =
     let answer : x ≡ answer_of before.limits before.vp f.words s = rw t.told at makes.answer in
     let known : Some g ≡ Some (fabric_after before.limits before.vp (phase_after before.phase s x) s f) =
-        sym t.tells ∙ ap (λ (z : Seat). z.told) makes.after ∙ ap (told_after before.limits before.vp (phase_after before.phase s x) s) t.told in
+    sym t.tells ∙ ap (λ (z : Seat). z.told) makes.after ∙ ap (told_after before.limits before.vp (phase_after before.phase s x) s) t.told in
     let is = same-some g _ known in
     record {
       answer = rw (t.limits_same, t.number) at answer;

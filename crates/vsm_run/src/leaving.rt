@@ -91,10 +91,7 @@ fn add_tracks(cpus: Vec<Cpu>, tracks: &mut Reserved<Track>)
 {
     for cpu in cpus {
         let (marks, seen) = cpu.into_lists();
-        tracks.push(Track {
-            marks,
-            seen,
-        });
+        tracks.push(Track { marks, seen });
     }
 }
 
@@ -114,7 +111,10 @@ pub fn left(
 {
     let words = fabric.words();
     add_masks(&words[..limits.pages as usize], &mut rooms.masks);
-    add_words(&words[Layout::of(limits).memory as usize..], &mut rooms.words);
+    add_words(
+        &words[Layout::of(limits).memory as usize..],
+        &mut rooms.words,
+    );
     add_ends(&cpus, &mut rooms.ends, &[]);
     add_tracks(cpus, &mut rooms.tracks);
     Report {

@@ -8,5 +8,5 @@ mod run;
 
 pub use run::trace;
 
-
-//mod tests;
+#[cfg(test)]
+mod tests;
