@@ -1,2 +1,7 @@
-//! To be written.
+//! A walk through a guest's four tables, one entry at a time.
 #![tactic(auto)]
+
+mod entry;
+mod walk;
+
+pub use walk::{Translation, Walk, WalkStep};
