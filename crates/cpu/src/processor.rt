@@ -312,6 +312,18 @@ impl Cpu {
         self.log.marks.as_slice()
     }
 
+    /// How many of the marks so far stay: all but that of a spin that found another value.
+    pub fn standing(&self) -> usize
+        ensures { result ≡ length (standing self.now) }
+    {
+        let marks = self.log.marks.as_slice().len();
+        if self.log.again {
+            marks.saturating_sub(1)
+        } else {
+            marks
+        }
+    }
+
     /// The events so far, oldest first.
     pub fn seen(&self) -> &[Event]
         ensures { result.now ≡ self.now.seen }
