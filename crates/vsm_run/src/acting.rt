@@ -32,7 +32,7 @@ fn turn_at(fabric: &mut PlainFabric, cpu: &mut Cpu, program: &Program) -> CpuTur
     let vp = cpu.vp();
     let mut port = fabric.port(vp);
     let turn = cpu.turn(&mut port, program);
-    let _few = cpu.under_way();
+    let _vp = cpu.vp();
     turn
 }
 
