@@ -3,7 +3,7 @@ use super::trace;
 use guest_script::read;
 use std::alloc::Global;
 use std::test::Fail;
-use vsm_base::{Mask, Page, VpIndex, Vtl};
+use vsm_base::{Access, Mask, Page, VpIndex, Vtl};
 use vsm_core::{Denial, Ending, Event, Grant, Mark, Posted, What};
 use vsm_report::{Line, Report};
 
@@ -23,6 +23,16 @@ fn run(alloc: Global, script: &[u8]) -> Result<Report, Fail> {
     Ok(report)
 }
 
+fn mark(rip: u64, what: What, first: u32, count: u32) -> Mark {
+    Mark {
+        level: Vtl::Zero,
+        rip,
+        what,
+        first,
+        count,
+    }
+}
+
 fn grant(mask: Mask, value: u64) -> Grant {
     Grant {
         page: Page(1),
@@ -33,87 +43,73 @@ fn grant(mask: Mask, value: u64) -> Grant {
     }
 }
 
-fn mark(rip: u64, what: What, first: u32) -> Mark {
-    Mark {
-        level: Vtl::Zero,
-        rip,
-        what,
-        first,
-        count: 5,
-    }
-}
-
 #[test]
-fn a_spin_ends_once_the_other_has_written(rt: HostRuntime) -> Result<(), Fail> {
-    let alloc = rt.alloc();
-    let report = run(alloc, HANDED_OVER)?;
+fn a_spin_ends_once_another_processor_has_written(rt: HostRuntime) -> Result<(), Fail> {
+    let report = run(rt.alloc(), HANDED_OVER)?;
     let all = Mask::all();
-    let again = mark(0, What::Again(grant(all, 0)), 0);
-    let stored = mark(0, What::Granted(grant(all, 5)), 0);
-    let loaded = mark(1, What::Granted(grant(all, 7)), 5);
-    assert_eq!(rt;
-        report.lines.as_slice(),
-        &[
-            Line::Mark(VpIndex(1), again),
-            Line::Mark(VpIndex(0), stored),
-            Line::Mark(VpIndex(1), stored),
-            Line::Mark(VpIndex(1), loaded),
-        ]
-    );
-    assert_eq!(rt; report.ends.as_slice(), &[Ending::Done, Ending::Done]);
-    assert_eq!(rt; report.masks.as_slice(), &[all, all]);
+    let again = mark(0, What::Again(grant(all, 0)), 0, 5);
+    let fives = mark(0, What::Granted(grant(all, 5)), 0, 5);
+    let sevens = mark(1, What::Granted(grant(all, 7)), 5, 5);
+    let lines = [
+        Line::Mark(VpIndex(1), again),
+        Line::Mark(VpIndex(0), fives),
+        Line::Mark(VpIndex(1), fives),
+        Line::Mark(VpIndex(1), sevens),
+    ];
+    assert_eq!(rt; report.lines.as_slice(), lines.as_slice());
+    let ends = [Ending::Done, Ending::Done];
+    assert_eq!(rt; report.ends.as_slice(), ends.as_slice());
+    let masks = [all, all];
+    assert_eq!(rt; report.masks.as_slice(), masks.as_slice());
     assert_eq!(rt; report.words.len(), 1024);
-    assert_eq!(rt; &report.words.as_slice()[511..514], &[0, 5, 7]);
-    let tracks = report.tracks.as_slice();
-    assert_eq!(rt; tracks.len(), 2);
-    assert_eq!(rt; tracks[0].marks.as_slice(), &[stored]);
-    assert_eq!(rt; tracks[1].marks.as_slice(), &[stored, loaded]);
-    assert_eq!(rt; tracks[1].seen.len(), 10);
-    assert_eq!(rt;
-        tracks[1].seen.as_slice()[3],
-        Event::Read {
-            page: Page(1),
-            index: 0,
-            value: 5,
-        }
-    );
+    let words = [0, 5, 7, 0];
+    assert_eq!(rt; &report.words.as_slice()[511..515], words.as_slice());
     Ok(())
 }
 
 #[test]
-fn a_spin_in_vain_is_cut_and_its_lines_stay(rt: HostRuntime) -> Result<(), Fail> {
-    let alloc = rt.alloc();
-    let report = run(alloc, IN_VAIN)?;
-    let read = Mask::of(1).ok_or("mask")?;
-    let again = mark(0, What::Again(grant(read, 0)), 0);
-    let denied = Mark {
-        level: Vtl::Zero,
-        rip: 0,
-        what: What::Denied(Denial {
-            page: Page(1),
-            mask: read,
-            generation: 0,
-            access: vsm_base::Access::Write,
-            posted: Posted::Held,
-        }),
-        first: 0,
-        count: 4,
+fn nothing_of_a_spin_stays_that_was_tried_anew(rt: HostRuntime) -> Result<(), Fail> {
+    let report = run(rt.alloc(), HANDED_OVER)?;
+    assert_eq!(rt; report.tracks.len(), 2);
+    let track = &report.tracks.as_slice()[1];
+    let marks = [
+        mark(0, What::Granted(grant(Mask::all(), 5)), 0, 5),
+        mark(1, What::Granted(grant(Mask::all(), 7)), 5, 5),
+    ];
+    assert_eq!(rt; track.marks.as_slice(), marks.as_slice());
+    assert_eq!(rt; track.seen.len(), 10);
+    let read = Event::Read {
+        page: Page(1),
+        index: 0,
+        value: 5,
     };
-    assert_eq!(rt;
-        report.lines.as_slice(),
-        &[
-            Line::Mark(VpIndex(1), again),
-            Line::Mark(VpIndex(1), again),
-            Line::Mark(VpIndex(0), denied),
-            Line::Mark(VpIndex(1), again),
-        ]
-    );
-    assert_eq!(rt; report.ends.as_slice(), &[Ending::Held, Ending::Cut]);
-    assert_eq!(rt; report.masks.as_slice(), &[Mask::all(), read]);
+    assert_eq!(rt; track.seen.as_slice()[3], read);
+    Ok(())
+}
+
+#[test]
+fn a_spin_in_vain_is_cut_and_each_of_its_lines_stays(rt: HostRuntime) -> Result<(), Fail> {
+    let report = run(rt.alloc(), IN_VAIN)?;
+    let read = Mask::of(1).ok_or("mask")?;
+    let again = mark(0, What::Again(grant(read, 0)), 0, 5);
+    let denial = Denial {
+        page: Page(1),
+        mask: read,
+        generation: 0,
+        access: Access::Write,
+        posted: Posted::Held,
+    };
+    let lines = [
+        Line::Mark(VpIndex(1), again),
+        Line::Mark(VpIndex(1), again),
+        Line::Mark(VpIndex(0), mark(0, What::Denied(denial), 0, 4)),
+        Line::Mark(VpIndex(1), again),
+    ];
+    assert_eq!(rt; report.lines.as_slice(), lines.as_slice());
+    let ends = [Ending::Held, Ending::Cut];
+    assert_eq!(rt; report.ends.as_slice(), ends.as_slice());
+    let masks = [Mask::all(), read];
+    assert_eq!(rt; report.masks.as_slice(), masks.as_slice());
     assert_eq!(rt; report.words.as_slice()[512], 0);
-    let tracks = report.tracks.as_slice();
-    assert_eq!(rt; tracks[0].seen.len(), 4);
-    assert_eq!(rt; tracks[1].marks.as_slice(), &[again]);
-    assert_eq!(rt; tracks[1].seen.len(), 5);
     Ok(())
 }
