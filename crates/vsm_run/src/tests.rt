@@ -43,23 +43,43 @@ fn grant(mask: Mask, value: u64) -> Grant {
     }
 }
 
+// The mark of an access to the first word, of a spin that read 0 there, and of an access to the second word.
+fn five() -> Mark {
+    mark(0, What::Granted(grant(Mask::all(), 5)), 0, 5)
+}
+
+fn again(mask: Mask) -> Mark {
+    mark(0, What::Again(grant(mask, 0)), 0, 5)
+}
+
+fn seven() -> Mark {
+    mark(1, What::Granted(grant(Mask::all(), 7)), 5, 5)
+}
+
+fn denied(mask: Mask) -> Mark {
+    let denial = Denial {
+        page: Page(1),
+        mask,
+        generation: 0,
+        access: Access::Write,
+        posted: Posted::Held,
+    };
+    mark(0, What::Denied(denial), 0, 4)
+}
+
 #[test]
 fn a_spin_ends_once_another_processor_has_written(rt: HostRuntime) -> Result<(), Fail> {
     let report = run(rt.alloc(), HANDED_OVER)?;
-    let all = Mask::all();
-    let again = mark(0, What::Again(grant(all, 0)), 0, 5);
-    let fives = mark(0, What::Granted(grant(all, 5)), 0, 5);
-    let sevens = mark(1, What::Granted(grant(all, 7)), 5, 5);
     let lines = [
-        Line::Mark(VpIndex(1), again),
-        Line::Mark(VpIndex(0), fives),
-        Line::Mark(VpIndex(1), fives),
-        Line::Mark(VpIndex(1), sevens),
+        Line::Mark(VpIndex(1), again(Mask::all())),
+        Line::Mark(VpIndex(0), five()),
+        Line::Mark(VpIndex(1), five()),
+        Line::Mark(VpIndex(1), seven()),
     ];
     assert_eq!(rt; report.lines.as_slice(), lines.as_slice());
     let ends = [Ending::Done, Ending::Done];
     assert_eq!(rt; report.ends.as_slice(), ends.as_slice());
-    let masks = [all, all];
+    let masks = [Mask::all(), Mask::all()];
     assert_eq!(rt; report.masks.as_slice(), masks.as_slice());
     assert_eq!(rt; report.words.len(), 1024);
     let words = [0, 5, 7, 0];
@@ -72,10 +92,7 @@ fn nothing_of_a_spin_stays_that_was_tried_anew(rt: HostRuntime) -> Result<(), Fa
     let report = run(rt.alloc(), HANDED_OVER)?;
     assert_eq!(rt; report.tracks.len(), 2);
     let track = &report.tracks.as_slice()[1];
-    let marks = [
-        mark(0, What::Granted(grant(Mask::all(), 5)), 0, 5),
-        mark(1, What::Granted(grant(Mask::all(), 7)), 5, 5),
-    ];
+    let marks = [five(), seven()];
     assert_eq!(rt; track.marks.as_slice(), marks.as_slice());
     assert_eq!(rt; track.seen.len(), 10);
     let read = Event::Read {
@@ -90,26 +107,18 @@ fn nothing_of_a_spin_stays_that_was_tried_anew(rt: HostRuntime) -> Result<(), Fa
 #[test]
 fn a_spin_in_vain_is_cut_and_each_of_its_lines_stays(rt: HostRuntime) -> Result<(), Fail> {
     let report = run(rt.alloc(), IN_VAIN)?;
-    let read = Mask::of(1).ok_or("mask")?;
-    let again = mark(0, What::Again(grant(read, 0)), 0, 5);
-    let denial = Denial {
-        page: Page(1),
-        mask: read,
-        generation: 0,
-        access: Access::Write,
-        posted: Posted::Held,
-    };
+    let mask = Mask::of(1).ok_or("mask")?;
     let lines = [
-        Line::Mark(VpIndex(1), again),
-        Line::Mark(VpIndex(1), again),
-        Line::Mark(VpIndex(0), mark(0, What::Denied(denial), 0, 4)),
-        Line::Mark(VpIndex(1), again),
+        Line::Mark(VpIndex(1), again(mask)),
+        Line::Mark(VpIndex(1), again(mask)),
+        Line::Mark(VpIndex(0), denied(mask)),
+        Line::Mark(VpIndex(1), again(mask)),
     ];
     assert_eq!(rt; report.lines.as_slice(), lines.as_slice());
     let ends = [Ending::Held, Ending::Cut];
     assert_eq!(rt; report.ends.as_slice(), ends.as_slice());
-    let masks = [Mask::all(), read];
+    let masks = [Mask::all(), mask];
     assert_eq!(rt; report.masks.as_slice(), masks.as_slice());
-    assert_eq!(rt; report.words.as_slice()[512], 0);
+    assert_eq!(rt; report.words.as_slice().get(512), Some(&0));
     Ok(())
 }
