@@ -1,5 +1,5 @@
 -- What a bank of registers answers, as a state.
-use Rattle.std.proofs.Common.{◌≡◌, ◌↔◌, ◌<◌, ◌≤◌, ℕ, Bool, true, false, cond, Result, Ok, Err, IsOk, OnOk, OnErr, IsTrue, refl, ap}
+use Rattle.std.proofs.Common.{◌≡◌, ◌↔◌, ℕ, Bool, true, false, cond, Result, Ok, Err, IsOk, OnOk, OnErr, IsTrue, refl, ap}
 use Rattle.vsm_base.specs.declared.name.Name.{Name}
 use Rattle.vsm_base.specs.declared.places.Vtl.{Vtl}
 use Rattle.register_file.specs.declared.bank.BadValue.{BadValue}

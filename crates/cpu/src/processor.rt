@@ -126,7 +126,14 @@ impl Cpu {
         let now = word_of(&self.bank, self.active, Name::Rip);
         let length = length_of(self.zero_length, self.one_length, self.active);
         let marks = self.log.marks.as_slice().len() + 1;
-        let ended = ending(length, self.limits.budget, &what, now, marks, self.log.spins);
+        let ended = ending(
+            length,
+            self.limits.budget,
+            &what,
+            now,
+            marks,
+            self.log.spins,
+        );
         let turn = after_mark(&what, ended);
         self.under = None;
         self.log.mark(self.active, rip, what, ended);
@@ -250,7 +257,12 @@ impl Cpu {
             word: PendingWord::Start,
             bits,
         });
-        self.log.mark(self.active, rip, What::Fault(fault), Some(Ending::Fault(fault)));
+        self.log.mark(
+            self.active,
+            rip,
+            What::Fault(fault),
+            Some(Ending::Fault(fault)),
+        );
         self.under = None;
         CpuTurn::Ended(Ending::Fault(fault))
     }
@@ -349,5 +361,19 @@ impl Cpu {
         let Cpu { log, .. } = self;
         let Log { marks, seen, .. } = log;
         (marks.into_items(), seen.into_items())
+    }
+}
+
+#[cfg(test)]
+impl Cpu {
+    /// The processor with so many reads of spins behind it that found another value.
+    #[tactic(auto, unfolding(vsm_core::specs::Processor::spin_limit))]
+    pub fn after_spins(self, spins: u32) -> Cpu
+        requires { spins < 20000000 }
+        ensures { result ≡ record self { spins = spins } }
+    {
+        let mut cpu = self;
+        cpu.log.spins = spins;
+        cpu
     }
 }

@@ -47,9 +47,7 @@ pub fn privilege_of(bank: &Bank, level: Vtl) -> u8
 pub fn may_name(bank: &Bank, level: Vtl, name: Name) -> bool
     ensures { result ≡ may_name_lem (state_of bank.now level) name }
 {
-    privilege_of(bank, level) == 0
-        || matches!(name, Name::Rsp | Name::Rflags)
-        || name.general()
+    privilege_of(bank, level) == 0 || matches!(name, Name::Rsp | Name::Rflags) || name.general()
 }
 
 /// What a store writes.

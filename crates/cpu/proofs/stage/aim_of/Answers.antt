@@ -1,4 +1,4 @@
-use Rattle.std.proofs.Common.{refl, rules}
+use Rattle.std.proofs.Common.{refl}
 use Rattle.access_path.specs.Rest.{goal_of}
 use Rattle.cpu.specs.Results.{state_of}
 use Rattle.cpu.proofs.Ops.{goal-so, local-so}
