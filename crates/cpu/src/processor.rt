@@ -205,6 +205,7 @@ impl Cpu {
         requires serves { VpServes self.old (P.seat port.old) }
         ensures turned { TurnsBy (rest_of self.old (operation_at program.now self.old.state)) (operation_at program.now self.old.state) self.old (P.seat port.old) self.new (P.seat port.new) result }
         ensures serves { VpServes self.new (P.seat port.new) }
+        ensures name { (P.seat port.new).name ≡ (P.seat port.old).name }
         ensures short { All IsShort (new_marks self.old self.new) }
         ensures same { IsSameProcessor self.old self.new }
         ensures kept { IfSome self.new.op (λ op. operation_at program.now self.new.state ≡ Some op) }
@@ -233,6 +234,7 @@ impl Cpu {
         requires serves { VpServes self.old (P.seat port.old) }
         ensures woken { Wakes self.old (P.seat port.old) self.new (P.seat port.new) result }
         ensures serves { VpServes self.new (P.seat port.new) }
+        ensures name { (P.seat port.new).name ≡ (P.seat port.old).name }
         ensures short { All IsShort (new_marks self.old self.new) }
         ensures same { IsSameProcessor self.old self.new }
         ensures idle { self.new.op ≡ None }
@@ -274,6 +276,7 @@ impl Cpu {
         ensures turned { self.old.started ≡ true → TurnsBy (rest_of self.old (operation_at program.now self.old.state)) (operation_at program.now self.old.state) self.old (P.seat port.old) self.new (P.seat port.new) result }
         ensures woken { self.old.started ≡ false → Wakes self.old (P.seat port.old) self.new (P.seat port.new) result }
         ensures serves { VpServes self.new (P.seat port.new) }
+        ensures name { (P.seat port.new).name ≡ (P.seat port.old).name }
         ensures short { All IsShort (new_marks self.old self.new) }
         ensures same { IsSameProcessor self.old self.new }
         ensures kept { IfSome self.new.op (λ op. operation_at program.now self.new.state ≡ Some op) }

@@ -9,6 +9,7 @@ use Rattle.cpu.specs.Turns.{phase_at}
 use Rattle.cpu.proofs.Rests.{going-ends}
 use Rattle.cpu.proofs.Seen.{first-by-le, first-by-few, part-by-le}
 use Rattle.cpu.proofs.Turning.{Stepped, again-kept, local-by, stepped, turned-by}
+use Rattle.cpu.proofs.processor.Cpu.advance.Given.{Over}
 use Rattle.cpu.proofs.processor.Cpu.advance.Goals as goal
 
 pub returns-then-not-is_going-clause-turned : goal.returns-then-not-is_going-clause-turned
@@ -56,35 +57,36 @@ invariant_of-self-2 g c =
       means = st.under;
     })
 
+-- what the step did
+way : (g : Over) (c : goal.After-settle-2 g) → Stepped c.self.inside.limits.pages (state_of c.self.inside.bank c.self.inside.active) c.begun-under.result.op c.self.inside.log.seen.0 c.self.inside.log.part c.self.inside.log.first (g.P.Port.seat c.args.port.now) (g.P.Port.seat c.step-step.new.port) c.step-step.result
+way g c =
+    let i = c.self.inside in
+    let w = c.self.invariant in
+    let old = g.P.Port.seat c.args.port.now in
+    let phase : old.phase ≡ phase_at i.log.seen.0 i.log.first = rw (← c.self.view_is) at c.requires.serves.phase in
+    stepped i.limits.pages (state_of i.bank i.active) c.begun-under.result i.log.seen.0 i.log.part i.log.first old (g.P.Port.seat c.step-step.new.port) c.step-step.result w.part_le w.first_le phase (c.begun-under.ensures.means i.log.seen.0 i.log.part i.log.first w.means) c.step-step.ensures
+
 pub returns-clause-turned : goal.returns-clause-turned
 returns-clause-turned g c =
     let i = c.self.inside in
-    let w = c.self.invariant in
     let v = view_of i in
     let u = c.begun-under.result in
-    let old = g.P.Port.seat c.args.port.now in
-    let new = g.P.Port.seat c.step-step.new.port in
-    let steps : StageSteps u.stage old new c.step-step.result = c.step-step.ensures in
-    let phase : old.phase ≡ phase_at i.log.seen.0 i.log.first = rw (← c.self.view_is) at c.requires.serves.phase in
-    let st = stepped i.limits.pages v.state u i.log.seen.0 i.log.part i.log.first old new c.step-step.result w.part_le w.first_le phase (c.begun-under.ensures.means i.log.seen.0 i.log.part i.log.first w.means) steps in
     let own : operation_at c.args.program.now v.state ≡ Some u.op = rw (← c.operations-ops.ensures) c.begun-under.ensures.op in
     let v1 : Vp = view_of (record { vp = i.vp; limits = i.limits; zero_length = i.zero_length; one_length = i.one_length; started = i.started; bank = i.bank; active = i.active; under = Some (record { op = u.op; stage = c.step-step.result.stage }); log = c.see.new.self }) in
-    rw (← c.self.view_is, own) (turned-by v v1 c.settle-2.new.self u.op old new c.step-step.result c.settle-2.result st (rw (c.see.ensures, c.stand.ensures) refl) c.settle-2.ensures.new c.settle-2.ensures.turn)
+    rw (← c.self.view_is, own) (turned-by v v1 c.settle-2.new.self u.op (g.P.Port.seat c.args.port.now) (g.P.Port.seat c.step-step.new.port) c.step-step.result c.settle-2.result (way g c) (rw (c.see.ensures, c.stand.ensures) refl) c.settle-2.ensures.new c.settle-2.ensures.turn)
 
 pub returns-clause-serves : goal.returns-clause-serves
 returns-clause-serves g c =
     let i = c.self.inside in
-    let w = c.self.invariant in
-    let u = c.begun-under.result in
     let old = g.P.Port.seat c.args.port.now in
-    let new = g.P.Port.seat c.step-step.new.port in
-    let steps : StageSteps u.stage old new c.step-step.result = c.step-step.ensures in
-    let phase : old.phase ≡ phase_at i.log.seen.0 i.log.first = rw (← c.self.view_is) at c.requires.serves.phase in
     let limits : old.limits ≡ i.limits = rw (← c.self.view_is) at c.requires.serves.limits in
     let vp : old.vp ≡ i.vp.0 = rw (← c.self.view_is) at c.requires.serves.vp in
-    let st = stepped i.limits.pages (state_of i.bank i.active) u i.log.seen.0 i.log.part i.log.first old new c.step-step.result w.part_le w.first_le phase (c.begun-under.ensures.means i.log.seen.0 i.log.part i.log.first w.means) steps in
+    let st = way g c in
     record {
       phase = sym (c.settle-2.ensures.phase ∙ rw (c.see.ensures, c.stand.ensures) st.phase);
       limits = ap (λ (z : Seat). z.limits) st.makes.after ∙ limits ∙ sym c.settle-2.ensures.same.limits;
       vp = ap (λ (z : Seat). z.vp) st.makes.after ∙ vp ∙ sym c.settle-2.ensures.same.number;
     }
+
+pub returns-clause-name : goal.returns-clause-name
+returns-clause-name g c = let st = way g c in ap (λ (z : Seat). z.name) st.makes.after
