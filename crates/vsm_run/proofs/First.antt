@@ -46,10 +46,9 @@ module _ (s : Script) (programs : length s.programs ≡ s.limits.vps) (started :
   first-in-place : (p : ℕ) → p < length s.programs → IsInPlace s.limits p (opening_vp s p)
   first-in-place p low = record {
     number = refl;
-    within = omega (arith, programs);
     limits_same = refl;
     started = grind (arith, nat_tests, programs, started);
-    rests = record { first = refl; part = omega arith };
+    rests = refl;
   }
 
   pub opening-in-place : AllInPlace s.limits (opening_vps s)

@@ -44,7 +44,6 @@ returns-clause-place c =
     let place = c.requires.place in
     record {
       number = ap (λ (n : Vp). n.number) e ∙ same.number;
-      within = place.within;
       limits_same = ap (λ (n : Vp). n.limits) e ∙ same.limits ∙ place.limits_same;
       started = ap (λ (n : Vp). n.started) e ∙ same.started ∙ place.started;
       rests = c.attempt_at.ensures.rests;
