@@ -1,5 +1,5 @@
 -- The report of a run.
-use Rattle.std.proofs.Common.{◌≡◌, ℕ, List, take, drop, refl}
+use Rattle.std.proofs.Common.{◌≡◌, List, take, drop, refl}
 use Rattle.vsm_base.specs.declared.places.Limits.{Limits}
 use Rattle.vsm_core.specs.declared.operation.Program.{Program}
 use Rattle.vsm_core.specs.Words.{memory_at}

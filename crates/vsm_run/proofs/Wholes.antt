@@ -1,6 +1,6 @@
 -- One turn of an attempt, and its whole.
-use Rattle.std.proofs.Common.{◌≡◌, ◌≢◌, ◌⊎◌, inl, inr, ◌≤◌, ◌+◌, ℕ, Option, Some, None, List, [], ◌∷◌, ◌++◌, length, map, take, drop, get_or, slice_set, refl, sym, ap, subst, ◌∙◌, append_assoc, length-append, length-take, length-drop, arith}
-use Rattle.std.proofs.Math.Seq.{drop-append_seam, drop-length}
+use Rattle.std.proofs.Common.{◌≡◌, ◌≢◌, ◌⊎◌, inl, inr, ◌≤◌, ◌+◌, ℕ, Option, Some, None, List, [], ◌∷◌, ◌++◌, length, map, take, drop, get_or, slice_set, refl, sym, ap, ◌∙◌, append_assoc, length-append, length-drop, arith}
+use Rattle.std.proofs.Math.Seq.{drop-append_seam}
 use Rattle.std.proofs.lemmas.List.{drop-append-le, length-take-le, map-append, get_or-set_other}
 use Rattle.vsm_base.specs.declared.places.Limits.{Limits}
 use Rattle.vsm_core.specs.declared.event.Event.{Event}
@@ -12,7 +12,7 @@ use Rattle.vsm_core.specs.declared.mark.What.{What}
 use Rattle.vsm_core.specs.declared.mark.What.TheVariants.{Again}
 use Rattle.vsm_core.specs.declared.operation.Op.{Op}
 use Rattle.vsm_core.specs.Attempt.{Outcome}
-use Rattle.vsm_core.specs.Processor.{Vp, Did, IsSameProcessor, saw, came_to, marked_or_ended, settled, rest_of, tree_of}
+use Rattle.vsm_core.specs.Processor.{Vp, IsSameProcessor, saw, came_to, marked_or_ended, settled, rest_of, tree_of}
 use Rattle.vsm_core.specs.Seat.{Seat, Fabric, Makes, fabric_after, told_after}
 use Rattle.vsm_core.specs.Steps.{made, learned, phase_after}
 use Rattle.vsm_core.specs.Tree.{Tree, Ends, Asks, Wants, WordStep, after, follow}

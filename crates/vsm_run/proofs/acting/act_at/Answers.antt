@@ -1,4 +1,4 @@
-use Rattle.std.proofs.Common.{rules, arith, ◌≡◌, ◌≤◌, ◌+◌, length, sym, ap, ◌∙◌, subst, length-append, length-take, length-drop, ℕ, List, ◌++◌, map}
+use Rattle.std.proofs.Common.{arith, ◌≡◌, ◌≤◌, ◌+◌, length, sym, ap, ◌∙◌, subst, length-append, length-take, length-drop, ℕ, List, ◌++◌, map}
 use Rattle.std.proofs.lemmas.List.{length-map}
 use Rattle.vsm_core.specs.declared.mark.Mark.{Mark}
 use Rattle.vsm_core.specs.declared.operation.Program.{Program}

@@ -1,4 +1,4 @@
-use Rattle.std.proofs.Common.{rules, arith, refl}
+use Rattle.std.proofs.Common.{rules, arith}
 use Rattle.fabric.specs.Seats.{plain_seat}
 use Rattle.vsm_core.specs.Processor.{operation_at}
 use Rattle.vsm_run.proofs.Wholes.{turn-leads}

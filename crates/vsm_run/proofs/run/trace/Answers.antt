@@ -1,11 +1,5 @@
-use Rattle.std.proofs.Common.{◌≡◌, ◌∙◌, ap, ℕ, List, length}
-use Rattle.guest_script.specs.declared.script.Script.{Script}
-use Rattle.guest_script.specs.declared.script.Turns.{Turns}
-use Rattle.vsm_base.specs.declared.places.Limits.{Limits}
+use Rattle.std.proofs.Common.{◌≡◌, ◌∙◌, ap, List, length}
 use Rattle.vsm_core.specs.declared.operation.Program.{Program}
-use Rattle.vsm_report.specs.declared.report.Report.{Report}
-use Rattle.vsm_report.specs.Schedule.{after_schedule}
-use Rattle.vsm_report.specs.Trace.{Stepped, stepped}
 use Rattle.vsm_report.proofs.Stepping.{traced-flat}
 use Rattle.vsm_run.proofs.Reports.{report-traced}
 use Rattle.vsm_run.proofs.run.trace.Goals as goal
@@ -13,7 +7,7 @@ use Rattle.vsm_run.proofs.run.trace.Goals as goal
 pub into_report-requires-clause-empty : goal.into_report-requires-clause-empty
 into_report-requires-clause-empty c =
     let all : length c.schedule.new.self.world.vps ≡ c.args.script.now.limits.vps =
-        c.schedule.ensures.fits.many ∙ ap (λ (ps : List Program). length ps) c.as_slice.ensures ∙ c.requires.programs in
+    c.schedule.ensures.fits.many ∙ ap (λ (ps : List Program). length ps) c.as_slice.ensures ∙ c.requires.programs in
     rw (c.schedule.ensures.limits, c.in_ok-run.ensures.limits, all) c.in_ok-rooms.ensures
 
 pub returns-clause-by_steps : goal.returns-clause-by_steps
