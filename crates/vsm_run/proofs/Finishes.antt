@@ -28,7 +28,7 @@ made-whole : (program : Program) (limits : Limits) (v : Vp) (words : List ℕ) �
 unfolding made_steps
 made-whole program limits v words rests same =
     let op = operation_at program v.state in
-    ap (λ es. whole limits v.number (follow (tree_of v.limits.pages v.state op) (map learned es)) op v words) (none-seen v.seen v.first rests.first)
+    ap (λ es. whole limits v.number (follow (tree_of v.limits.pages v.state op) (map learned es)) op v words) (none-seen v.seen v.first rests)
     ∙ ap (λ (l : Limits). whole l v.number (tree_of v.limits.pages v.state op) op v words) (sym same)
 
 -- a turn that is no move is the end
@@ -47,7 +47,7 @@ module _ (limits : Limits) (op : Option Op) (start : Vp) (words : List ℕ) (v :
 
 -- at rest a processor is in no access
 rest-idle : (v : Vp) → IsAtRest v → phase_at v.seen v.first ≡ Idle
-rest-idle v rests = ap (λ es. phase_of (reverse es)) (none-seen v.seen v.first rests.first)
+rest-idle v rests = ap (λ es. phase_of (reverse es)) (none-seen v.seen v.first rests)
 
 all-idle : (p : ℕ) (phases : List Phase) (n : Vp) → IsAtRest n → get_or phases p Idle ≡ phase_at n.seen n.first → ((q : ℕ) → q ≢ p → get_or phases q Idle ≡ Idle) → AllIdle phases
 all-idle p phases n rests own others q = go (eqb_tells q p) where

@@ -1,5 +1,5 @@
 -- Processors before their first attempts.
-use Rattle.std.proofs.Common.{◌≡◌, ◌<◌, ◌+◌, ℕ, zero, suc, true, nat_lt, Some, List, [], ◌∷◌, ◌++◌, length, map, replicate, get_or, slice_get, refl, sym, ap, subst, ◌∙◌, zero-add, arith}
+use Rattle.std.proofs.Common.{◌≡◌, ◌<◌, ◌+◌, ℕ, zero, suc, nat_lt, Some, List, [], ◌∷◌, ◌++◌, length, map, replicate, get_or, slice_get, refl, sym, ap, subst, ◌∙◌, zero-add, arith}
 use Rattle.std.specs.List.{range_with_len}
 use Rattle.std.proofs.lemmas.Bool.Decides.{nat_tests}
 use Rattle.std.proofs.lemmas.List.FromFn.{length-map-range_with_len, get_or-map-range_with_len, map-range_with_len_more}
@@ -46,10 +46,9 @@ module _ (s : Script) (programs : length s.programs ≡ s.limits.vps) (started :
   first-in-place : (p : ℕ) → p < length s.programs → IsInPlace s.limits p (opening_vp s p)
   first-in-place p low = record {
     number = refl;
-    within = omega (arith, programs);
     limits_same = refl;
     started = grind (arith, nat_tests, programs, started);
-    rests = record { first = refl; part = omega arith };
+    rests = refl;
   }
 
   pub opening-in-place : AllInPlace s.limits (opening_vps s)

@@ -1,6 +1,6 @@
 -- One turn of an attempt, and its whole.
-use Rattle.std.proofs.Common.{◌≡◌, ◌≢◌, ◌⊎◌, inl, inr, ◌≤◌, ◌+◌, ℕ, Option, Some, None, List, [], ◌∷◌, ◌++◌, length, map, take, drop, get_or, slice_set, refl, sym, ap, subst, ◌∙◌, append_assoc, length-append, length-take, length-drop, arith}
-use Rattle.std.proofs.Math.Seq.{drop-append_seam, drop-length}
+use Rattle.std.proofs.Common.{◌≡◌, ◌≢◌, ◌⊎◌, inl, inr, ◌≤◌, ◌+◌, ℕ, Option, Some, None, List, [], ◌∷◌, ◌++◌, length, map, take, drop, get_or, slice_set, refl, sym, ap, ◌∙◌, append_assoc, length-append, length-drop, arith}
+use Rattle.std.proofs.Math.Seq.{drop-append_seam}
 use Rattle.std.proofs.lemmas.List.{drop-append-le, length-take-le, map-append, get_or-set_other}
 use Rattle.vsm_base.specs.declared.places.Limits.{Limits}
 use Rattle.vsm_core.specs.declared.event.Event.{Event}
@@ -12,7 +12,7 @@ use Rattle.vsm_core.specs.declared.mark.What.{What}
 use Rattle.vsm_core.specs.declared.mark.What.TheVariants.{Again}
 use Rattle.vsm_core.specs.declared.operation.Op.{Op}
 use Rattle.vsm_core.specs.Attempt.{Outcome}
-use Rattle.vsm_core.specs.Processor.{Vp, Did, IsSameProcessor, saw, came_to, marked_or_ended, settled, rest_of, tree_of}
+use Rattle.vsm_core.specs.Processor.{Vp, IsSameProcessor, saw, came_to, marked_or_ended, settled, rest_of, tree_of}
 use Rattle.vsm_core.specs.Seat.{Seat, Fabric, Makes, fabric_after, told_after}
 use Rattle.vsm_core.specs.Steps.{made, learned, phase_after}
 use Rattle.vsm_core.specs.Tree.{Tree, Ends, Asks, Wants, WordStep, after, follow}
@@ -22,7 +22,12 @@ use Rattle.cpu.specs.declared.cpu_turn.CpuTurn.{CpuTurn}
 use Rattle.cpu.specs.declared.cpu_turn.CpuTurn.TheVariants as turns
 use Rattle.cpu.specs.Turns.{TurnsBy, after_mark, answer_at}
 use Rattle.vsm_run.specs.Rests.{IsAtRest}
-use Rattle.vsm_run.specs.Wholes.{whole, IsOrdered, Moves, Stops, Leads}
+use Rattle.vsm_run.specs.Wholes.{whole, Moves, Stops, Leads}
+
+-- the places of a processor's events are in order
+pub record IsOrdered (v : Vp) : Type 0 where
+  pub part : v.part ≤ length v.seen
+  pub first : v.first ≤ length v.seen
 
 -- events that were taken out of the middle
 drop-forgot : {A : Type 0} (part : ℕ) (xs ys zs : List A) → part ≤ length xs → drop part ((take part xs ++ ys) ++ zs) ≡ ys ++ zs
@@ -48,21 +53,18 @@ record Sees (op : Option Op) (v n : Vp) : Type 0 where
   state : n.state ≡ v.state
   kept : n.op ≡ op
   ended : n.ended ≡ v.ended
-  ordered : IsOrdered n
+  part : n.part ≤ length n.seen
   nearer : length n.seen + v.first ≡ length v.seen + n.first + 1
-
-itself : (v : Vp) → IsSameProcessor v v
-itself v = record { number = refl; limits = refl; zero_length = refl; one_length = refl; started = refl }
 
 saw-sees : (op : Option Op) (v : Vp) (e : Event) → IsOrdered v → Sees op v (saw op v e)
 saw-sees op v (events.Check generation) is =
     let part = is.part in let first = is.first in
     let long : length ((take v.part v.seen ++ drop v.first v.seen) ++ events.Check generation ∷ []) + v.first ≡ length v.seen + v.part + 1 =
     omega (arith, length-append (take v.part v.seen ++ drop v.first v.seen) (events.Check generation ∷ []), length-append (take v.part v.seen) (drop v.first v.seen), length-take-le v.part v.seen part, length-drop v.first v.seen) in
-    record { same = record { number = refl; limits = refl; zero_length = refl; one_length = refl; started = refl }; state = refl; kept = refl; ended = refl; ordered = record { part = omega arith; first = omega arith }; nearer = long }
+    record { same = record { number = refl; limits = refl; zero_length = refl; one_length = refl; started = refl }; state = refl; kept = refl; ended = refl; part = omega arith; nearer = long }
 saw-sees op v e is =
     let part = is.part in let first = is.first in let long = length-append v.seen (e ∷ []) in
-    record { same = record { number = refl; limits = refl; zero_length = refl; one_length = refl; started = refl }; state = refl; kept = refl; ended = refl; ordered = record { part = omega arith; first = omega arith }; nearer = omega arith }
+    record { same = record { number = refl; limits = refl; zero_length = refl; one_length = refl; started = refl }; state = refl; kept = refl; ended = refl; part = omega arith; nearer = omega arith }
 
 -- no mark is a move
 mark-stops : (what : What) (e : Option Ending) → after_mark what e ≢ turns.Moved
@@ -86,13 +88,13 @@ settled-ended (Asks s k) e h = absurd (h refl)
 settled-ended (Wants q k) e h = absurd (h refl)
 
 again-rests : (v : Vp) (o : Outcome) (ending : Option Ending) → v.part ≤ length v.seen → IsAtRest (marked_or_ended v o ending)
-again-rests v o None le = record { first = refl; part = le }
+again-rests v o None le = refl
 again-rests v o (Some ending) le =
-    let long = length-take-le v.part v.seen le in record { first = sym long; part = omega arith }
+    sym (length-take-le v.part v.seen le)
 
 came_to-rests : (what : What) (v : Vp) (o : Outcome) → v.part ≤ length v.seen → IsAtRest (came_to what v o)
 came_to-rests (Again grant) v o le = again-rests v o _ le
-came_to-rests _ v o le = record { first = refl; part = omega arith }
+came_to-rests _ v o le = refl
 
 ended-rests : (t : Tree Outcome) (v : Vp) → IsEnd t → v.part ≤ length v.seen → IsAtRest (settled t v)
 ended-rests t v is le = rw is.is (came_to-rests is.with.what v is.with le)
@@ -116,7 +118,6 @@ module _ (limits : Limits) (p : ℕ) (op : Option Op) where
         state = sees.state;
         kept = sees.kept;
         ended = sees.ended;
-        ordered = sees.ordered;
         nearer = sees.nearer;
       })
 
@@ -126,7 +127,7 @@ module _ (limits : Limits) (p : ℕ) (op : Option Op) where
       let m = saw op v (made s x) in
       rw new (record {
         did = rw rest (sym (whole-step s k v words x told) ∙ whole-ended (k x) m (words_by limits p words s) end);
-        rests = ended-rests (k x) m end (saw-sees op v (made s x) is).ordered.part;
+        rests = ended-rests (k x) m end (saw-sees op v (made s x) is).part;
       })
 
   stopped-at-once : (o : Outcome) (v n : Vp) (words : List ℕ) → rest_of v op ≡ Ends o → IsOrdered v → n ≡ settled (Ends o) v → Stops limits p op v n words words

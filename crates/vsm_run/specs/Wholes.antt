@@ -1,5 +1,5 @@
 -- What is left of an attempt, step by step.
-use Rattle.std.specs.Prelude.{◌≡◌, ◌≢◌, ℕ, ◌+◌, ◌≤◌, List, length, get_or, Option, Some, None, IfSome}
+use Rattle.std.specs.Prelude.{◌≡◌, ◌≢◌, ℕ, ◌+◌, List, length, get_or, Option, Some, None, IfSome}
 use Rattle.vsm_base.specs.declared.places.Limits.{Limits}
 use Rattle.vsm_core.specs.declared.event.Phase.TheVariants.{Idle}
 use Rattle.vsm_core.specs.declared.operation.Op.{Op}
@@ -17,11 +17,6 @@ use Rattle.vsm_run.specs.Rests.{IsAtRest}
 abbrev pub whole : Limits → ℕ → Tree Outcome → Option Op → Vp → List ℕ → Did (List ℕ)
 whole limits p t op v words = did_stop op v (steps_on limits p words t)
 
--- the places of a processor's events are in order
-pub record IsOrdered (v : Vp) : Type 0 where
-  pub part : v.part ≤ length v.seen
-  pub first : v.first ≤ length v.seen
-
 -- a step with which the attempt goes on
 pub record Moves (limits : Limits) (p : ℕ) (op : Option Op) (v n : Vp) (words after : List ℕ) : Type 0 where
   pub same_whole : whole limits p (rest_of n op) op n after ≡ whole limits p (rest_of v op) op v words
@@ -29,7 +24,6 @@ pub record Moves (limits : Limits) (p : ℕ) (op : Option Op) (v n : Vp) (words 
   pub state : n.state ≡ v.state
   pub kept : n.op ≡ op
   pub ended : n.ended ≡ v.ended
-  pub ordered : IsOrdered n
   pub nearer : length n.seen + v.first ≡ length v.seen + n.first + 1
 
 -- the end of the attempt
@@ -49,6 +43,5 @@ pub record IsOn (op : Option Op) (start : Vp) (words : List ℕ) (limits : Limit
   pub state : v.state ≡ start.state
   pub kept : IfSome v.op (λ o. op ≡ Some o)
   pub going : v.ended ≡ None
-  pub ordered : IsOrdered v
   pub phase : get_or fabric.phases start.number Idle ≡ phase_at v.seen v.first
   pub others : (q : ℕ) → q ≢ start.number → get_or fabric.phases q Idle ≡ Idle

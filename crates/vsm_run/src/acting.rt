@@ -6,7 +6,7 @@ ghost use Rattle.vsm_report.specs.Acting.{mark_line, new_lines};
 ghost use Rattle.vsm_report.specs.Trace.{made_steps};
 ghost use Rattle.vsm_run.specs.Fits.{FitsOne};
 ghost use Rattle.vsm_run.specs.Rests.{AllIdle, IsAtRest, IsInPlace};
-ghost use Rattle.vsm_run.specs.Wholes.{IsOrdered, Leads};
+ghost use Rattle.vsm_run.specs.Wholes.{Leads};
 
 use cpu::{Cpu, CpuTurn};
 use fabric::PlainFabric;
@@ -20,8 +20,6 @@ fn turn_at(fabric: &mut PlainFabric, cpu: &mut Cpu, program: &Program) -> CpuTur
     requires started { cpu.old.started ≡ true }
     requires fits { FitsOne program.now cpu.old }
     requires limits { cpu.old.limits ≡ fabric.old.limits }
-    requires within { cpu.old.number < fabric.old.limits.vps }
-    requires ordered { IsOrdered cpu.old }
     requires phase { get_or fabric.old.fabric.phases cpu.old.number Phase.Idle ≡ phase_at cpu.old.seen cpu.old.first }
     ensures leads { Leads result fabric.old.limits cpu.old.number (operation_at program.now cpu.old.state) cpu.old cpu.new fabric.old.fabric.words fabric.new.fabric.words }
     ensures limits { fabric.new.limits ≡ fabric.old.limits }

@@ -144,16 +144,6 @@ fn opened(alloc: Global, script: &Script) -> Result<Run, Memory>
     })
 }
 
-fn walked(alloc: Global, script: &Script) -> Result<Report, Memory>
-    requires { IsWithin script.now }
-    ensures { IfOk result (λ report. report ≡ traced script.now) }
-{
-    let mut run = opened(alloc, script)?;
-    let rooms = Rooms::new(alloc, &script.limits)?;
-    run.schedule(script.programs.as_slice(), script.schedule.as_slice());
-    Ok(run.into_report(alloc, &script.limits, rooms))
-}
-
 /// The report of a script's run, which is the same whether each attempt is made at once or step by step on the
 /// shared words. All memory is taken before the first turn; the only error is want of it.
 pub fn trace(alloc: Global, script: &Script) -> Result<Report, Memory>
@@ -161,6 +151,8 @@ pub fn trace(alloc: Global, script: &Script) -> Result<Report, Memory>
     ensures at_once { IfOk result (λ report. report ≡ flat script.now) }
     ensures by_steps { IfOk result (λ report. report ≡ traced script.now) }
 {
-    let report = walked(alloc, script)?;
-    Ok(report)
+    let mut run = opened(alloc, script)?;
+    let rooms = Rooms::new(alloc, &script.limits)?;
+    run.schedule(script.programs.as_slice(), script.schedule.as_slice());
+    Ok(run.into_report(alloc, &script.limits, rooms))
 }

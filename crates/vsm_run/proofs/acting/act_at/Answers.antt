@@ -1,4 +1,4 @@
-use Rattle.std.proofs.Common.{rules, arith, ◌≡◌, ◌≤◌, ◌+◌, length, sym, ap, ◌∙◌, subst, length-append, length-take, length-drop, ℕ, List, ◌++◌, map}
+use Rattle.std.proofs.Common.{arith, ◌≡◌, ◌≤◌, ◌+◌, length, sym, ap, ◌∙◌, subst, length-append, length-take, length-drop, ℕ, List, ◌++◌, map}
 use Rattle.std.proofs.lemmas.List.{length-map}
 use Rattle.vsm_core.specs.declared.mark.Mark.{Mark}
 use Rattle.vsm_core.specs.declared.operation.Program.{Program}
@@ -44,7 +44,6 @@ returns-clause-place c =
     let place = c.requires.place in
     record {
       number = ap (λ (n : Vp). n.number) e ∙ same.number;
-      within = place.within;
       limits_same = ap (λ (n : Vp). n.limits) e ∙ same.limits ∙ place.limits_same;
       started = ap (λ (n : Vp). n.started) e ∙ same.started ∙ place.started;
       rests = c.attempt_at.ensures.rests;

@@ -1,9 +1,7 @@
-use Rattle.std.proofs.Common.{◌≡◌, subst, sym, ap}
-use Rattle.vsm_core.specs.declared.event.Phase.{Phase}
+use Rattle.std.proofs.Common.{subst, sym, ap}
 use Rattle.fabric.specs.Plain.{Plain}
 use Rattle.vsm_run.specs.Fits.{Fits}
 use Rattle.vsm_run.specs.Rests.{AllIdle}
-use Rattle.vsm_run.proofs.Acts.{AllInPlace}
 use Rattle.vsm_run.proofs.First.{all_idle, opening-in-place, opening-fit}
 use Rattle.vsm_run.proofs.run.opened.Goals as goal
 

@@ -1,6 +1,19 @@
-use Rattle.std.proofs.Common.{◌∙◌}
+use Rattle.std.proofs.Common.{◌≡◌, ◌∙◌, ap, List, length}
+use Rattle.vsm_core.specs.declared.operation.Program.{Program}
 use Rattle.vsm_report.proofs.Stepping.{traced-flat}
+use Rattle.vsm_run.proofs.Reports.{report-traced}
 use Rattle.vsm_run.proofs.run.trace.Goals as goal
 
+pub into_report-requires-clause-empty : goal.into_report-requires-clause-empty
+into_report-requires-clause-empty c =
+    let all : length c.schedule.new.self.world.vps ≡ c.args.script.now.limits.vps =
+    c.schedule.ensures.fits.many ∙ ap (λ (ps : List Program). length ps) c.as_slice.ensures ∙ c.requires.programs in
+    rw (c.schedule.ensures.limits, c.in_ok-run.ensures.limits, all) c.in_ok-rooms.ensures
+
+pub returns-clause-by_steps : goal.returns-clause-by_steps
+returns-clause-by_steps c =
+    c.into_report.ensures ∙ report-traced c.args.script.now c.in_ok-run.run'.world c.schedule.new.self.world c.schedule.new.self.limits c.as_slice.result.now c.as_slice-2.result.now
+    (c.schedule.ensures.limits ∙ c.in_ok-run.ensures.limits) c.in_ok-run.ensures.world c.as_slice.ensures c.as_slice-2.ensures c.schedule.ensures.acts
+
 pub returns-clause-at_once : goal.returns-clause-at_once
-returns-clause-at_once c = c.in_ok-report.ensures ∙ traced-flat c.args.script.now c.requires
+returns-clause-at_once c = returns-clause-by_steps c ∙ traced-flat c.args.script.now c.requires

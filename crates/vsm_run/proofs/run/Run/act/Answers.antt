@@ -1,8 +1,6 @@
 use Rattle.std.proofs.Common.{◌≡◌, refl, sym, ap, subst, ◌∙◌, true, false, is_some}
-use Rattle.vsm_core.specs.Processor.{Vp}
 use Rattle.vsm_report.specs.Trace.{stepped}
 use Rattle.vsm_run.specs.Fits.{Fits}
-use Rattle.vsm_run.specs.Rests.{IsInPlace}
 use Rattle.vsm_run.specs.Running.{Running}
 use Rattle.vsm_run.proofs.Acts.{found_at, set_back, fits_here, still_fit, still_in_place, own_place, program_of, stepped-ended, stepped-running, world_of}
 use Rattle.vsm_run.proofs.run.Run.act.Goals as goal

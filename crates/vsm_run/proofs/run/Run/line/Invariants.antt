@@ -1,4 +1,4 @@
-use Rattle.std.proofs.Common.{◌≡◌, ◌≤◌, ◌+◌, length, take, drop, fold}
+use Rattle.std.proofs.Common.{◌≡◌, ◌≤◌, ◌+◌, length, drop, fold}
 use Rattle.guest_script.specs.Schedules.{turns_of}
 use Rattle.vsm_report.specs.Schedule.{after_entry}
 use Rattle.vsm_report.specs.Trace.{stepped}
