@@ -17,7 +17,7 @@ use Rattle.vsm_core.specs.declared.operation.Op.TheVariants.{Set, Get, Load, Sto
 use Rattle.vsm_core.specs.Fills.{Fill, Cached, Filled, Emptied}
 use Rattle.vsm_core.specs.Registers.{is_legal}
 use Rattle.vsm_core.specs.State.{State, get, put, put_legal, gone_to, gone_on, word_of, privilege_of, may_name, operand}
-use Rattle.vsm_core.specs.Switch.{may_call, may_return, called, returned, assist_page, restored_from, reason_index, rax_index, rcx_index, by_call}
+use Rattle.vsm_core.specs.Switch.{may_call, may_return, called, returned, assist_page, restored_from, reason_index, rax_index, rcx_index, by_call, entry_word}
 use Rattle.vsm_core.specs.Tree.{Tree, Ends, Asks, Entering, Checking, Reading, Writing, Leaving, then_}
 use Rattle.vsm_core.specs.Access.{Goal, Decision, Grants, Denies, Faults, access, start_fault}
 
@@ -115,7 +115,7 @@ left_with state = Asks Leaving (λ _. Ends (plain state))
 -- level 1 is entered in this state: the reason is told on the assist page, where that is on
 abbrev pub enters : Option ℕ → ℕ → State → Tree Outcome
 enters None reason state = Ends (plain state)
-enters (Some page) reason state = in_access (Asks (Writing page reason_index reason) (λ _. left_with state))
+enters (Some page) reason state = in_access (Asks (Writing page reason_index (entry_word reason)) (λ _. left_with state))
 
 -- level 0 is returned to: RAX and RCX are taken from this page, where there is one
 abbrev pub returns : Option ℕ → State → Tree Outcome

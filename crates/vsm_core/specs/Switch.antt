@@ -78,3 +78,14 @@ by_call = 1
 
 abbrev pub by_interrupt : ℕ
 by_interrupt = 2
+
+-- the word that tells why level 1 was entered: the reason in bits 31 to 0. Bit 32, the notification of an interrupt that waits at level 0, and all others are zero
+abbrev pub entry_word : ℕ → ℕ
+entry_word reason = reason % 2 ^ 32
+
+-- the reason that such a word tells, and whether that notification is asserted in it
+abbrev pub reason_of : ℕ → ℕ
+reason_of word = word % 2 ^ 32
+
+abbrev pub vina_of : ℕ → Bool
+vina_of word = word / 2 ^ 32 % 2 == 1
