@@ -1,7 +1,7 @@
 // The switches.
-ghost use Rattle.std.specs.Prelude.{◌≡◌, ◌≢◌, ◌↔◌, IsOk, IsTrue, IfOk, OnOk, OnErr};
-ghost use Rattle.vsm_base.specs.declared.name.Name.{Name as AnyName};
-ghost use Rattle.vsm_base.specs.declared.places.Vtl.{Vtl as AnyVtl};
+ghost use Rattle.std.specs.Prelude.{◌≡◌, ◌↔◌, IsOk, IsTrue, IfOk, OnOk, OnErr};
+ghost use Rattle.vsm_base.specs.declared.name.Name.{Name};
+ghost use Rattle.vsm_base.specs.declared.places.Vtl.{Vtl};
 ghost use Rattle.vsm_core.specs.Registers.{get};
 ghost use Rattle.vsm_core.specs.Switch.{may_call as may_call_lem, may_enter as may_enter_lem, may_return as may_return_lem, is_fast as is_fast_lem, called, entered, returned, assist_page as assist_page_lem, restored_from, with_pair};
 ghost use Rattle.vtl_state.specs.States.{state_of};
@@ -44,6 +44,7 @@ pub fn call(bank: &mut Bank, levels: &mut Levels, pages: u32) -> Result<Option<P
     ensures state { OnOk result (state_of bank.new levels.new ≡ called (state_of bank.old levels.old)) }
     ensures page { IfOk result (λ page. number_of page ≡ assist_page_lem pages (state_of bank.old levels.old)) }
     ensures refused { OnErr result (state_of bank.new levels.new ≡ state_of bank.old levels.old) }
+    ensures stays { (level : Vtl) (name : Name) → ¬ ((level ≡ Vtl.Zero) × (name ≡ Name.Rip)) → get bank.new level name ≡ get bank.old level name }
 {
     if !may_call(bank, levels) {
         return Err(Refused::Undefined);
@@ -123,6 +124,7 @@ pub fn give_back(
     ensures exact { IsOk result ↔ IsTrue (may_return_lem (state_of bank.old levels.old)) }
     ensures state { OnOk result (state_of bank.new levels.new ≡ returned (state_of bank.old levels.old) pair) }
     ensures refused { OnErr result (state_of bank.new levels.new ≡ state_of bank.old levels.old) }
+    ensures stays { (level : Vtl) (name : Name) → ¬ ((level ≡ Vtl.One) × (name ≡ Name.Rip)) → IsNotGiven pair name → get bank.new level name ≡ get bank.old level name }
 {
     if !may_return(bank, levels) {
         return Err(Refused::Undefined);
