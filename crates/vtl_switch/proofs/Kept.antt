@@ -46,7 +46,7 @@ with_pair-keeps state None level name other = refl
 with_pair-keeps state (Some pair) level name other =
     let given = put_legal state names.Rax pair.0 in
     if-legal (is_legal names.Rcx pair.1) (put_active given names.Rcx pair.1) given level name (put-rcx given.registers given.active level name pair.1 other.1)
-      ∙ if-legal (is_legal names.Rax pair.0) (put_active state names.Rax pair.0) state level name (put-rax state.registers state.active level name pair.0 other.0)
+    ∙ if-legal (is_legal names.Rax pair.0) (put_active state names.Rax pair.0) state level name (put-rax state.registers state.active level name pair.0 other.0)
 
 zero-of : (level : Vtl) → IsTrue (is_zero level) → level ≡ Zero
 zero-of Zero h = refl
