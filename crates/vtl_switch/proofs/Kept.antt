@@ -1,5 +1,5 @@
 -- What a switch keeps of the registers.
-use Rattle.std.proofs.Common.{◌≡◌, ◌≢◌, ◌==◌, ◌+◌, ◌/◌, ◌&&◌, ℕ, Bool, true, false, cond, if◌then◌else◌, Option, Some, None, IsTrue, slice_index, slice_set, refl, ap, sym, ◌∙◌}
+use Rattle.std.proofs.Common.{◌≡◌, ◌≢◌, ◌==◌, ◌+◌, ◌/◌, ◌&&◌, ℕ, Bool, true, false, cond, if◌then◌else◌, Option, Some, None, IsTrue, refl, ◌∙◌}
 use Rattle.std.proofs.lemmas.List.{get_or-set_other}
 use Rattle.vsm_base.specs.declared.name.Name.{Name}
 use Rattle.vsm_base.specs.declared.name.Name.TheVariants as names

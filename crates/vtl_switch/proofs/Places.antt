@@ -1,9 +1,9 @@
 -- Two registers don't stand at one place.
-use Rattle.std.proofs.Common.{◌≡◌, ◌≢◌, ◌<◌, ◌≤◌, ◌==◌, ℕ, suc, Bool, true, false, cond, List, [], ◌∷◌, length, refl, sym, arith, lit<}
+use Rattle.std.proofs.Common.{◌≡◌, ◌≢◌, ◌<◌, ◌==◌, ℕ, suc, cond, List, [], ◌∷◌, length, refl, sym, arith, lit<}
 use Rattle.std.proofs.lemmas.Bool.Decides.{nat_tests}
 use Rattle.vsm_base.specs.declared.name.Name.{Name}
 use Rattle.vsm_base.specs.declared.name.Name.TheVariants as names
-use Rattle.vsm_base.specs.Names.{number_of, is_shared, all_names}
+use Rattle.vsm_base.specs.Names.{number_of, all_names}
 use Rattle.vsm_core.specs.Registers.{place_among, shared_names, private_names, shared_place, private_place}
 
 at_head : (o a b x y n : ℕ) → (x < n → x ≡ y → a ≡ b) → cond (o == a) 0 (suc x) < suc n → cond (o == a) 0 (suc x) ≡ cond (o == b) 0 (suc y) → a ≡ b

@@ -2,7 +2,7 @@
 use Rattle.std.specs.Prelude.{ℕ, Bool, true, false, Option, Some, None}
 use Rattle.vsm_base.specs.declared.places.Page.{Page}
 use Rattle.vtl_switch.specs.declared.switches.Back.{Back}
-use Rattle.vtl_switch.specs.declared.switches.Back.TheVariants.{Fast, Restore, Plain}
+use Rattle.vtl_switch.specs.declared.switches.Back.TheVariants.{Fast, Restore}
 
 -- the number of a page, where there is one
 abbrev pub number_of : Option Page → Option ℕ
