@@ -65,8 +65,8 @@ CASES = [
     ("walks, an entry a turn, 40,000 turns", in_turns(8, 40_000)),
     ("spins in vain, 100,000 turns", spins(100_000)),
     ("spins in vain, 50,000 turns", spins(50_000)),
-    ("60,000 words", words(60_000)),
-    ("30,000 words", words(30_000)),
+    ("50,000 words", words(50_000)),
+    ("25,000 words", words(25_000)),
 ]
 
 

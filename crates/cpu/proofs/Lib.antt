@@ -1,2 +1,10 @@
-pub mod Accesses
+pub mod Attempts
 pub mod Banks
+pub mod Seen
+pub mod Spins
+pub mod Lists
+pub mod Openings
+pub mod Ops
+pub mod Rests
+pub mod Steps
+pub mod Turning

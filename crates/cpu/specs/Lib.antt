@@ -1,2 +1,5 @@
+pub mod Logs
+pub mod Results
 pub mod Sound
-pub mod Stops
+pub mod Stages
+pub mod Turns

@@ -1,8 +1,13 @@
--- A processor as contracts see it, and what holds of it between two calls.
-use Rattle.std.specs.Prelude.{◌≡◌, ◌<◌, true, None, length}
-use Rattle.vsm_core.specs.Processor.{Vp}
+-- What contracts see of a processor, and what is always so.
+use Rattle.std.specs.Prelude.{◌≡◌, ℕ, ◌+◌, ◌*◌, ◌<◌, ◌≤◌, true, false, None, length}
+use Rattle.vsm_base.specs.declared.places.Vtl.{Vtl}
+use Rattle.vsm_base.specs.declared.places.Vtl.TheVariants.{Zero, One}
+use Rattle.vsm_core.specs.Processor.{Vp, spin_limit}
 use Rattle.vsm_core.specs.State.{rip_of}
 use Rattle.cpu.specs.declared.processor.Cpu.TheInside.{Inside}
+use Rattle.cpu.specs.Logs.{standing_of}
+use Rattle.cpu.specs.Results.{state_of}
+use Rattle.cpu.specs.Stages.{Means, op_of}
 
 abbrev pub view_of : Inside → Vp
 view_of c = record {
@@ -11,12 +16,37 @@ view_of c = record {
   zero_length = c.zero_length;
   one_length = c.one_length;
   started = c.started;
-  state = record { registers = c.bank };
-  marks = c.marks.0;
-  ended = c.ended;
+  state = state_of c.bank c.active;
+  op = op_of c.under;
+  marks = c.log.marks.0;
+  seen = c.log.seen.0;
+  part = c.log.part;
+  first = c.log.first;
+  again = c.log.again;
+  spins = c.log.spins;
+  ended = c.log.ended;
 }
 
--- there is room for what the budget still allows
+-- the length of a level's program
+abbrev pub length_at : ℕ → ℕ → Vtl → ℕ
+length_at zero_length one_length Zero = zero_length
+length_at zero_length one_length One = one_length
+
+-- there is room for what the budget still allows, and the stage is where the events so far have led
 pub record IsSound (c : Inside) : Type 0 where
-  pub room : c.marks.1 ≡ c.limits.budget
-  pub going : c.started ≡ true → c.ended ≡ None → (length c.marks.0 < c.limits.budget) × (rip_of (record { registers = c.bank }) < c.zero_length)
+  pub vp : c.vp.0 < c.limits.vps
+  pub budget : c.limits.budget ≤ 10000
+  pub marks_room : c.log.marks.1 ≡ c.limits.budget
+  pub seen_room : c.log.seen.1 ≡ 64 * c.limits.budget
+  pub marks_few : length c.log.marks.0 ≤ c.limits.budget
+  pub part_few : c.log.part ≤ 13 * length (standing_of c.log.again c.log.marks.0)
+  pub part_le : c.log.part ≤ c.log.first
+  pub first_few : c.log.first ≤ c.log.part + 13
+  pub first_le : c.log.first ≤ length c.log.seen.0
+  pub seen_few : length c.log.seen.0 ≤ c.log.first + 13
+  pub room : c.log.ended ≡ None → length (standing_of c.log.again c.log.marks.0) < c.limits.budget
+  pub running : c.started ≡ true → c.log.ended ≡ None → rip_of (state_of c.bank c.active) < length_at c.zero_length c.one_length c.active
+  pub spins : c.log.ended ≡ None → c.log.spins < spin_limit
+  pub waits : c.started ≡ false → c.under ≡ None
+  pub fresh : c.started ≡ false → c.log.again ≡ false
+  pub means : Means c.limits.pages (state_of c.bank c.active) c.under c.log.seen.0 c.log.part c.log.first

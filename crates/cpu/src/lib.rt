@@ -1,7 +1,13 @@
 //! One virtual processor.
 #![tactic(auto)]
 
-mod access;
+mod cpu_turn;
+mod endings;
+mod log;
+mod operations;
 mod processor;
+mod registers;
+mod stage;
 
+pub use cpu_turn::CpuTurn;
 pub use processor::Cpu;

@@ -1,15 +1,27 @@
-// A processor and its marks.
-ghost use Rattle.std.specs.Prelude.{◌≡◌, ◌+◌, ◌*◌, ◌<◌, ◌≤◌, ◌^◌, true, None, Some, IfOk, List, length, slice_get, if◌then◌else◌};
-ghost use Rattle.vsm_core.specs.Processor.{opening, attempted, marked, ran_out, or_else, stopped_by, AddsMark, IsSameProcessor};
+// A processor, its attempts and its turns.
+ghost use Rattle.std.specs.Prelude.{◌≡◌, ◌≢◌, ◌+◌, ◌-◌, ◌<◌, ◌≤◌, true, false, None, Some, IfSome, IfNone, IfOk, length, drop};
+ghost use Rattle.std.specs.List.{All};
+ghost use Rattle.vsm_core.specs.Processor.{opening, standing, operation_at, operations_of, length_of, rest_of, settled, marked, came_to, new_marks, IsShort, IsSameProcessor};
+ghost use Rattle.vsm_core.specs.Attempt.{Outcome, attempt, most_steps_of};
+ghost use Rattle.vsm_core.specs.Tree.{Ends};
+ghost use Rattle.cpu.specs.Sound.{length_at};
+ghost use Rattle.cpu.specs.Results.{outcome, result_of};
+ghost use Rattle.cpu.specs.Turns.{Keeps, VpServes, TurnsBy, Wakes, answer_at, after_mark, phase_at};
 
-use crate::access::{perform, word_of};
+use crate::cpu_turn::{CpuTurn, after_mark};
+use crate::endings::{ending, ending_on, opening_ending};
+use crate::log::Log;
+use crate::operations::{Decided, again, finish};
+use crate::registers::word_of;
+use crate::stage::{Stage, Under, begin, begun, is_going, step};
+use fabric::Port;
 use register_file::Bank;
 use std::alloc::Global;
 use std::marker::Model;
-use vsm_base::{Limits, Mask, Memory, Name, Reserved, VpIndex, Vtl};
-use vsm_core::{Ending, Mark, Op, Posted, Program, What};
+use vsm_base::{Items, Limits, Memory, Name, Reserved, VpIndex, Vtl};
+use vsm_core::{Ending, Event, Grant, GuestFault, Mark, Op, PendingWord, Phase, Program, What};
 
-/// A virtual processor. Contracts see its registers, its marks and its ending.
+/// A virtual processor.
 #[derive(Drop)]
 pub struct Cpu {
     vp: VpIndex,
@@ -18,8 +30,9 @@ pub struct Cpu {
     one_length: usize,
     started: bool,
     bank: Bank,
-    marks: Reserved<Mark>,
-    ended: Option<Ending>,
+    active: Vtl,
+    under: Option<Under>,
+    log: Log,
 }
 
 impl Model for Cpu {
@@ -33,57 +46,27 @@ impl Model for Cpu {
     ghost invariant = { IsSound };
 }
 
-fn ran_out(length: usize, budget: u32, rip: u64, marks: usize) -> Option<Ending>
-    ensures { result ≡ ran_out length budget rip marks }
+fn length_of(zero: usize, one: usize, level: Vtl) -> usize
+    ensures { result ≡ length_at zero one level }
 {
-    if rip >= length as u64 {
-        Some(Ending::Done)
-    } else if marks >= budget as usize {
-        Some(Ending::Budget)
-    } else {
-        None
+    match level {
+        Vtl::Zero => zero,
+        Vtl::One => one,
     }
 }
 
-fn opening_ending(started: bool, length: usize, budget: u32) -> Option<Ending>
-    ensures { result ≡ (if started then ran_out length budget 0 0 else None) }
+fn operations(program: &Program, level: Vtl) -> &[Op]
+    ensures { result.now ≡ operations_of program.now level }
 {
-    if started {
-        ran_out(length, budget, 0, 0)
-    } else {
-        None
-    }
-}
-
-fn stopped_by(what: &What) -> Option<Ending>
-    ensures { result ≡ stopped_by what.now }
-{
-    match what {
-        What::Fault(fault) => Some(Ending::Fault(*fault)),
-        What::Denied(denial) if denial.posted == Posted::Held => Some(Ending::Held),
-        What::Hit(Posted::Held) => Some(Ending::Held),
-        _ => None,
-    }
-}
-
-fn operation(ops: &[Op], rip: u64) -> Option<Op>
-    ensures { result ≡ slice_get ops.now rip }
-{
-    ops.get(rip as usize).copied()
-}
-
-fn ending(length: usize, budget: u32, what: &What, rip: u64, marks: usize) -> Option<Ending>
-    ensures { result ≡ or_else (stopped_by what.now) (ran_out length budget rip marks) }
-{
-    match stopped_by(what) {
-        Some(ending) => Some(ending),
-        None => ran_out(length, budget, rip, marks),
+    match level {
+        Vtl::Zero => program.zero.as_slice(),
+        Vtl::One => program.one.as_slice(),
     }
 }
 
 impl Cpu {
-    /// A processor before its first attempt, with room for all its marks. The only error is want of memory.
-    #[tactic(auto, unfolding(vsm_core::specs::State::opening_state))]
+    /// A processor before its first turn.
+    #[tactic(auto, unfolding(vsm_core::specs::State::opening_state, vsm_core::specs::Processor::spin_limit))]
     pub fn new(
         alloc: Global,
         vp: VpIndex,
@@ -91,12 +74,25 @@ impl Cpu {
         started: bool,
         program: &Program,
     ) -> Result<Cpu, Memory>
-        requires { 1 ≤ limits.now.budget }
+        requires vp { vp.0 < limits.now.vps }
+        requires budget_some { 1 ≤ limits.now.budget }
+        requires budget_few { limits.now.budget ≤ 10000 }
         ensures { IfOk result (λ cpu. cpu ≡ opening vp.0 limits.now started (length program.now.zero) (length program.now.one)) }
     {
-        let marks = Reserved::new(alloc, limits.budget as usize)?;
+        let budget = limits.budget as usize;
+        let marks = Reserved::new(alloc, budget)?;
+        let seen = Reserved::new(alloc, 64 * budget)?;
         let zero_length = program.zero.len();
         let ended = opening_ending(started, zero_length, limits.budget);
+        let log = Log {
+            marks,
+            seen,
+            part: 0,
+            first: 0,
+            again: false,
+            spins: 0,
+            ended,
+        };
         Ok(Cpu {
             vp,
             limits: *limits,
@@ -104,61 +100,254 @@ impl Cpu {
             one_length: program.one.len(),
             started,
             bank: Bank::opening(),
-            marks,
-            ended,
+            active: Vtl::Zero,
+            under: None,
+            log,
         })
     }
 
-    /// Makes the whole attempt of the operation at Rip over all pages' masks and all memory words, and leaves
-    /// exactly one mark. It answers the ending that then holds, and takes no memory.
-    #[tactic(auto, unfolding(vsm_core::specs::Processor::attempted))]
-    pub fn attempt(
-        &mut self,
-        masks: &[Mask],
-        words: &mut [u64],
-        program: &Program,
-    ) -> Option<Ending>
+    /// Leaves the mark that stays, where an attempt has ended.
+    fn mark(&mut self, op: Op, decided: Decided) -> CpuTurn
+        requires going { self.old.ended ≡ None }
+        requires fresh { self.old.again ≡ false }
+        requires tidy { self.old.part ≡ self.old.first }
+        requires idle { phase_at self.old.seen self.old.first ≡ Phase.Idle }
+        requires few { length self.old.seen - self.old.first ≤ most_steps_of (result_of self.old.state op decided).0 }
+        ensures new { self.new ≡ marked self.old (outcome (result_of self.old.state op decided)) }
+        ensures turn { result ≡ after_mark (result_of self.old.state op decided).0 self.new.ended }
+        ensures short { All IsShort (drop (length self.old.marks) self.new.marks) }
+        ensures phase { phase_at self.new.seen self.new.first ≡ Phase.Idle }
+        ensures same { IsSameProcessor self.old self.new }
+        ensures kept { Keeps self.old self.new }
+        ensures within { length self.new.marks ≤ self.old.limits.budget }
+    {
+        let rip = word_of(&self.bank, self.active, Name::Rip);
+        let what = finish(&mut self.bank, self.active, op, decided);
+        let now = word_of(&self.bank, self.active, Name::Rip);
+        let length = length_of(self.zero_length, self.one_length, self.active);
+        let marks = self.log.marks.as_slice().len() + 1;
+        let ended = ending(length, self.limits.budget, &what, now, marks, self.log.spins);
+        let turn = after_mark(&what, ended);
+        self.under = None;
+        self.log.mark(self.active, rip, what, ended);
+        turn
+    }
+
+    /// Leaves the mark of a spin that found another value and begins anew, or ends.
+    #[tactic(auto, unfolding(vsm_core::specs::Processor::spin_limit))]
+    fn mark_again(&mut self, op: Op, grant: Grant) -> CpuTurn
+        requires going { self.old.ended ≡ None }
+        requires fresh { self.old.again ≡ false }
+        requires tidy { self.old.part ≡ self.old.first }
+        requires idle { phase_at self.old.seen self.old.first ≡ Phase.Idle }
+        requires few { length self.old.seen - self.old.first ≤ 13 }
+        requires op { self.old.op ≡ Some op }
+        requires asks { (o : Outcome) → attempt self.old.limits.pages self.old.state op ≢ Ends o }
+        ensures new { self.new ≡ came_to (What.Again grant) self.old (outcome (What.Again grant, self.old.state)) }
+        ensures turn { result ≡ after_mark (What.Again grant) self.new.ended }
+        ensures short { All IsShort (drop (length self.old.marks) self.new.marks) }
+        ensures phase { phase_at self.new.seen self.new.first ≡ Phase.Idle }
+        ensures same { IsSameProcessor self.old self.new }
+        ensures kept { Keeps self.old self.new }
+        ensures within { length self.new.marks ≤ self.old.limits.budget }
+    {
+        let rip = word_of(&self.bank, self.active, Name::Rip);
+        let length = length_of(self.zero_length, self.one_length, self.active);
+        let marks = self.log.marks.as_slice().len();
+        let spins = self.log.spins + 1;
+        match ending_on(length, self.limits.budget, rip, marks, spins) {
+            Some(ending) => {
+                self.under = None;
+                self.log.end_spin(ending);
+                CpuTurn::Ended(ending)
+            }
+            None => {
+                let stage = begin(self.limits.pages, &self.bank, self.active, op);
+                self.under = Some(Under { op, stage });
+                self.log.mark_again(self.active, rip, grant);
+                CpuTurn::Again
+            }
+        }
+    }
+
+    /// Leaves the mark, if the attempt has come to its end.
+    fn settle(&mut self) -> CpuTurn
+        requires going { self.old.ended ≡ None }
+        requires fresh { self.old.again ≡ false }
+        requires under { self.old.op ≢ None }
+        ensures new { self.new ≡ settled (rest_of self.old self.old.op) self.old }
+        ensures turn { result ≡ answer_at (rest_of self.old self.old.op) self.new.ended }
+        ensures short { All IsShort (drop (length self.old.marks) self.new.marks) }
+        ensures phase { phase_at self.new.seen self.new.first ≡ phase_at self.old.seen self.old.first }
+        ensures same { IsSameProcessor self.old self.new }
+        ensures kept { Keeps self.old self.new }
+        ensures within { length self.new.marks ≤ self.old.limits.budget }
+    {
+        let Some(under) = self.under else {
+            unreachable!()
+        };
+        let Under { op, stage } = under;
+        let Stage::End { decided } = stage else {
+            return CpuTurn::Moved;
+        };
+        match again(op, &decided) {
+            Some(grant) => self.mark_again(op, grant),
+            None => self.mark(op, decided),
+        }
+    }
+    /// Makes the next step of a processor that has started, or the end of an attempt that has no step left.
+    fn advance<P: Port>(&mut self, port: &mut P, program: &Program) -> CpuTurn
         requires started { self.old.started ≡ true }
         requires going { self.old.ended ≡ None }
-        requires masks { length masks.now ≡ self.old.limits.pages }
-        requires words { length words.old ≡ 512 * self.old.limits.pages }
         requires zero { length program.now.zero ≡ self.old.zero_length }
         requires one { length program.now.one ≡ self.old.one_length }
-        ensures cpu { self.new ≡ (attempted program.now masks.now 0 self.old words.old).vp }
-        ensures words { words.new ≡ (attempted program.now masks.now 0 self.old words.old).words }
-        ensures ending { result ≡ self.new.ended }
-        ensures one_mark { AddsMark self.old self.new }
-        ensures within { length self.new.marks ≤ self.old.limits.budget }
+        requires same { IfSome self.old.op (λ op. operation_at program.now self.old.state ≡ Some op) }
+        requires serves { VpServes self.old (P.seat port.old) }
+        ensures turned { TurnsBy (rest_of self.old (operation_at program.now self.old.state)) (operation_at program.now self.old.state) self.old (P.seat port.old) self.new (P.seat port.new) result }
+        ensures serves { VpServes self.new (P.seat port.new) }
+        ensures name { (P.seat port.new).name ≡ (P.seat port.old).name }
+        ensures short { All IsShort (new_marks self.old self.new) }
         ensures same { IsSameProcessor self.old self.new }
+        ensures kept { IfSome self.new.op (λ op. operation_at program.now self.new.state ≡ Some op) }
+        ensures within { length self.new.marks ≤ self.old.limits.budget }
     {
-        let rip = word_of(&self.bank, Name::Rip);
-        let op = operation(program.zero.as_slice(), rip);
-        let what = perform(self.limits.pages, masks, words, &mut self.bank, op);
-        let mark = Mark {
-            level: Vtl::Zero,
-            rip,
-            what,
-            first: 0,
-            count: 0,
-        };
-        self.marks.push(mark);
-        let now = word_of(&self.bank, Name::Rip);
-        let marks = self.marks.as_slice().len();
-        self.ended = ending(self.zero_length, self.limits.budget, &what, now, marks);
-        self.ended
+        let ops = operations(program, self.active);
+        let under = begun(self.limits.pages, &self.bank, self.active, self.under, ops);
+        self.log.stand();
+        self.under = Some(under);
+        if !is_going(&under.stage) {
+            return self.settle();
+        }
+        let step = step(under.stage, port);
+        self.log.see(step.event);
+        self.under = Some(Under {
+            op: under.op,
+            stage: step.stage,
+        });
+        self.settle()
+    }
+
+    /// Takes from the start word of a processor that hasn't started. Where it was 0 nothing changes.
+    fn wake<P: Port>(&mut self, port: &mut P) -> CpuTurn
+        requires waits { self.old.started ≡ false }
+        requires going { self.old.ended ≡ None }
+        requires serves { VpServes self.old (P.seat port.old) }
+        ensures woken { Wakes self.old (P.seat port.old) self.new (P.seat port.new) result }
+        ensures serves { VpServes self.new (P.seat port.new) }
+        ensures name { (P.seat port.new).name ≡ (P.seat port.old).name }
+        ensures short { All IsShort (new_marks self.old self.new) }
+        ensures same { IsSameProcessor self.old self.new }
+        ensures idle { self.new.op ≡ None }
+        ensures within { length self.new.marks ≤ self.old.limits.budget }
+    {
+        let rip = word_of(&self.bank, self.active, Name::Rip);
+        let bits = port.take(PendingWord::Start);
+        if bits == 0 {
+            return CpuTurn::Idle;
+        }
+        let fault = GuestFault::Undefined;
+        self.log.see(Event::Take {
+            word: PendingWord::Start,
+            bits,
+        });
+        self.log.mark(self.active, rip, What::Fault(fault), Some(Ending::Fault(fault)));
+        self.under = None;
+        CpuTurn::Ended(Ending::Fault(fault))
+    }
+    /// Makes at most one step at the processor's port.
+    ///
+    /// A processor that has started makes the next step of the attempt of the operation where the active level's
+    /// program stands, and leaves a mark where the attempt has then come to its end. An attempt that has no step left
+    /// makes none. A spin that found another value leaves a mark that stands until the next turn, and so do its events
+    /// until the check of its next attempt; its 20,000,000th read in vain ends the processor, and nothing of it stays.
+    ///
+    /// A processor that hasn't started takes from its start word. Where that was 0 nothing changes. Starts can't be
+    /// served yet: at anything else it ends as at an undefined operation.
+    ///
+    /// It needs that the processor has no ending, that the programs are those that it was made with, and a port that
+    /// is the processor's own and at which every step since it was made was one of its turns'. It takes no memory. The
+    /// order of an attempt's steps, and spins, are this project's own.
+    pub fn turn<P: Port>(&mut self, port: &mut P, program: &Program) -> CpuTurn
+        requires going { self.old.ended ≡ None }
+        requires zero { length program.now.zero ≡ self.old.zero_length }
+        requires one { length program.now.one ≡ self.old.one_length }
+        requires same { IfSome self.old.op (λ op. operation_at program.now self.old.state ≡ Some op) }
+        requires serves { VpServes self.old (P.seat port.old) }
+        ensures turned { self.old.started ≡ true → TurnsBy (rest_of self.old (operation_at program.now self.old.state)) (operation_at program.now self.old.state) self.old (P.seat port.old) self.new (P.seat port.new) result }
+        ensures woken { self.old.started ≡ false → Wakes self.old (P.seat port.old) self.new (P.seat port.new) result }
+        ensures serves { VpServes self.new (P.seat port.new) }
+        ensures name { (P.seat port.new).name ≡ (P.seat port.old).name }
+        ensures short { All IsShort (new_marks self.old self.new) }
+        ensures same { IsSameProcessor self.old self.new }
+        ensures kept { IfSome self.new.op (λ op. operation_at program.now self.new.state ≡ Some op) }
+        ensures within { length self.new.marks ≤ self.old.limits.budget }
+    {
+        if self.started {
+            self.advance(port, program)
+        } else {
+            self.wake(port)
+        }
+    }
+
+    /// The processor's number.
+    pub fn vp(&self) -> VpIndex
+        ensures number { result.0 ≡ self.now.number }
+        ensures below { self.now.number < self.now.limits.vps }
+        ensures part { self.now.part ≤ self.now.first }
+        ensures first { self.now.first ≤ length self.now.seen }
+        ensures few { length self.now.seen ≤ self.now.first + 13 }
+    {
+        self.vp
     }
 
     /// Why the processor runs no more, if it doesn't.
     pub fn ended(&self) -> Option<Ending>
         ensures { result ≡ self.now.ended }
     {
-        self.ended
+        self.log.ended
     }
 
-    /// The marks so far, oldest first.
+    /// The marks so far, oldest first. The last may be that of a spin that found another value, which goes at the next
+    /// turn.
     pub fn marks(&self) -> &[Mark]
         ensures { result.now ≡ self.now.marks }
     {
-        self.marks.as_slice()
+        self.log.marks.as_slice()
+    }
+
+    /// How many of the marks so far stay: all but that of a spin that found another value.
+    pub fn standing(&self) -> usize
+        ensures { result ≡ length (standing self.now) }
+    {
+        let marks = self.log.marks.as_slice().len();
+        if self.log.again {
+            marks.saturating_sub(1)
+        } else {
+            marks
+        }
+    }
+
+    /// The events so far, oldest first.
+    pub fn seen(&self) -> &[Event]
+        ensures { result.now ≡ self.now.seen }
+    {
+        self.log.seen.as_slice()
+    }
+
+    /// The registers.
+    pub fn bank(&self) -> &Bank
+        ensures { result.now ≡ self.now.state.registers }
+    {
+        &self.bank
+    }
+
+    /// The marks and the events, oldest first.
+    pub fn into_lists(self) -> (Items<Mark>, Items<Event>)
+        ensures marks { result.0 ≡ self.marks }
+        ensures seen { result.1 ≡ self.seen }
+    {
+        let Cpu { log, .. } = self;
+        let Log { marks, seen, .. } = log;
+        (marks.into_items(), seen.into_items())
     }
 }

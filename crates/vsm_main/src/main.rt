@@ -2,13 +2,12 @@
 #![tactic(auto)]
 
 mod serve;
-mod walk;
 
 pub use serve::{Status, serve_plain, vsm};
 use std::process::ExitCode;
 use std::{env, io};
 use vsm_base::{StdSink, StdSource};
-pub use walk::trace;
+pub use vsm_run::trace;
 
 #[cfg(test)]
 mod cases;

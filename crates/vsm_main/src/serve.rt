@@ -6,13 +6,13 @@ ghost use Rattle.guest_script.specs.Grammar.{script};
 ghost use Rattle.guest_script.specs.declared.script.Script.{Script};
 ghost use Rattle.vsm_main.specs.Serve.{is_trace, Says, Decides, Completes, status_of};
 
-use crate::trace;
 use guest_script::{ReadError, read};
 use std::alloc::Global;
 use std::sync::Wait;
 use std::thread::Threads;
 use vsm_base::{InputError, Memory, Sink, Source, WriteFailed, put_whole, read_whole};
 use vsm_report::write;
+use vsm_run::trace;
 
 /// How a call ended: the number of the variant, from 0, is the status of the process.
 #[derive(Clone, Copy, Debug, PartialEq, Eq)]

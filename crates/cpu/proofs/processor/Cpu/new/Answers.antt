@@ -1,13 +1,26 @@
-use Rattle.std.proofs.Common.{◌≡◌, None, sym, ◌∙◌, rules}
+use Rattle.std.proofs.Common.{◌≡◌, ◌≤◌, None, sym, ◌∙◌, rules, arith, refl}
 use Rattle.vsm_core.specs.Processor.{ran_out}
-use Rattle.cpu.proofs.Banks.{rip-opening, ran_out-none}
+use Rattle.cpu.proofs.Openings.{rip-opening, ran_out-none, spins-open}
 use Rattle.cpu.proofs.processor.Cpu.new.Goals as goal
 
 pub invariant_of-result : goal.invariant_of-result
 invariant_of-result c = record {
-  room = search rules;
-  going = λ started ended.
+  vp = c.requires.vp;
+  budget = c.requires.budget_few;
+  marks_room = search rules;
+  seen_room = search rules;
+  marks_few = rw c.in_ok-marks.ensures (omega arith);
+  part_few = omega arith;
+  part_le = omega arith;
+  first_few = omega arith;
+  first_le = omega arith;
+  seen_few = rw c.in_ok-seen.ensures (omega arith);
+  room = λ e. rw c.in_ok-marks.ensures c.requires.budget_some;
+  running = λ started ended.
       let runs : ran_out c.len-zero_length.result c.args.limits.now.budget 0 0 ≡ None = sym (rw started at c.opening_ending-ended.ensures) ∙ ended in
-      let b = ran_out-none c.len-zero_length.result c.args.limits.now.budget c.requires runs in
-      (rw c.in_ok-marks.ensures b.0, rw (c.opening.ensures.opening, rip-opening) b.1);
+      rw (c.opening.ensures.opening, rip-opening) (ran_out-none c.len-zero_length.result c.args.limits.now.budget c.requires.budget_some runs);
+  spins = λ e. spins-open;
+  waits = λ e. refl;
+  fresh = λ e. refl;
+  means = (rw c.in_ok-seen.ensures refl, refl);
 }

@@ -1,0 +1,125 @@
+-- A turn, by what its step did.
+use Rattle.std.proofs.Common.{◌≡◌, ◌≢◌, ◌∙◌, ◌+◌, ◌-◌, ◌≤◌, ◌<◌, ℕ, suc, false, List, [], ◌∷◌, ◌++◌, length, map, drop, refl, sym, ap, subst, arith, Option, Some, None, IfSome, length-append, length-drop}
+use Rattle.vsm_core.specs.declared.event.Event.{Event}
+use Rattle.vsm_core.specs.declared.mark.Ending.{Ending}
+use Rattle.vsm_core.specs.declared.mark.Grant.{Grant}
+use Rattle.vsm_core.specs.declared.mark.What.{What}
+use Rattle.vsm_core.specs.declared.mark.What.TheVariants as whats
+use Rattle.vsm_core.specs.declared.operation.Op.{Op}
+use Rattle.vsm_core.specs.declared.request.Reply.{Reply}
+use Rattle.vsm_core.specs.Attempt.{Outcome, attempt, most_steps}
+use Rattle.vsm_core.specs.Processor.{Vp, answers_of, came_to, ending_after, marked_or_ended, rest_of, saw, settled, standing, tree_of}
+use Rattle.vsm_core.specs.Seat.{Seat, Makes}
+use Rattle.vsm_core.specs.State.{State}
+use Rattle.vsm_core.specs.Steps.{learned, made, phase_after}
+use Rattle.vsm_core.specs.Tree.{Tree, Ends, Asks, Wants, WordStep, after, follow, Counts}
+use Rattle.vsm_core.specs.Turns.{Turned}
+use Rattle.vsm_core.proofs.Bounds.{follow-append, Counts-asks, Counts-most, most_steps-few}
+use Rattle.cpu.specs.declared.cpu_turn.CpuTurn.{CpuTurn}
+use Rattle.cpu.specs.declared.stage.StageStep.{StageStep}
+use Rattle.cpu.specs.declared.stage.Under.{Under}
+use Rattle.cpu.specs.Logs.{first_by, seen_by}
+use Rattle.cpu.specs.Stages.{StageAt, StageRest, StageSteps, IsTidy, IsUnderWay, Means, op_of}
+use Rattle.cpu.specs.Turns.{TurnsBy, answer_at, phase_at}
+use Rattle.cpu.proofs.Rests.{NoAgain, attempt-no-again}
+use Rattle.cpu.proofs.Attempts.{none-seen}
+use Rattle.cpu.proofs.Seen.{own-by, answers-by, phase-by, saw-by, saw_so}
+use Rattle.cpu.proofs.Steps.{tidy-step}
+
+-- an attempt of this operation is under way where an event more has led
+abbrev pub UnderBy : ℕ → State → Op → StageStep → List Event → ℕ → ℕ → Event → Type 0
+UnderBy count state op step seen part first e = IsUnderWay count state (record { op = op; stage = step.stage }) (seen_by seen part first e) part (first_by part first e)
+
+-- what a step did to the attempt under way
+pub record Stepped (count : ℕ) (state : State) (op : Op) (seen : List Event) (part first : ℕ) (old new : Seat) (step : StageStep) : Type 0 where
+  pub s : WordStep
+  pub x : ℕ
+  pub k : ℕ → Tree Outcome
+  pub asks : follow (attempt count state op) (answers_of seen first) ≡ Asks s k
+  pub makes : Makes old s x new
+  pub event : step.event ≡ made s x
+  pub few : length (seen_by seen part first step.event) ≤ first_by part first step.event + 13
+  pub more : follow (attempt count state op) (answers_of (seen_by seen part first (made s x)) (first_by part first (made s x))) ≡ k x
+  pub phase : phase_at (seen_by seen part first step.event) (first_by part first step.event) ≡ new.phase
+  pub under : UnderBy count state op step seen part first step.event
+
+turned-asks : {A : Type 0} (t : Tree A) (old new : Seat) (Q : Tree A → Type 0) → Turned t old new Q → (s : WordStep) × (x : ℕ) × (k : ℕ → Tree A) × (t ≡ Asks s k) × Makes old s x new × Q (k x)
+turned-asks (Ends a) old new Q h = absurd h
+turned-asks (Asks s k) old new Q h = (s, h.0, k, refl, h.1, h.2)
+turned-asks (Wants q k) old new Q h = absurd h
+
+same-some : {A : Type 0} (a b : A) → Some a ≡ Some b → a ≡ b
+same-some a b e = cc
+
+some-reply : Reply
+some-reply = record { status = record { 0 = 0 }; done = 0; value = 0; context = None }
+
+pub stepped : (count : ℕ) (state : State) (u : Under) (seen : List Event) (part first : ℕ) (old new : Seat) (step : StageStep) → part ≤ first → first ≤ length seen → old.phase ≡ phase_at seen first → IsUnderWay count state u seen part first → StageSteps u.stage old new step
+    → Stepped count state u.op seen part first old new step
+stepped count state u seen part first old new step low le phase way steps =
+    let t = turned-asks (follow (attempt count state u.op) (answers_of seen first)) old new (StageRest state u.op step.stage) (steps.turned state u.op _ way.rest) in
+    let event : step.event ≡ made t.0 t.1 = same-some _ _ (sym steps.event ∙ ap (λ (z : Seat). z.last) t.4.after) in
+    let counts : Counts most_steps (suc (length (drop first seen))) (t.2 t.1) = Counts-asks most_steps _ t.0 t.2 _ t.1 t.3 way.counts in
+    let few : suc (length (drop first seen)) ≤ 13 = Counts-most most_steps 13 some-reply _ (t.2 t.1) most_steps-few counts in
+    let answers : answers_of (seen_by seen part first (made t.0 t.1)) (first_by part first (made t.0 t.1)) ≡ answers_of seen first ++ t.1 ∷ [] = answers-by seen part first (made t.0 t.1) low le ∙ ap (λ z. answers_of seen first ++ z ∷ []) t.4.learns in
+    let more : follow (attempt count state u.op) (answers_of (seen_by seen part first (made t.0 t.1)) (first_by part first (made t.0 t.1))) ≡ t.2 t.1 =
+        rw answers (follow-append (attempt count state u.op) (answers_of seen first) t.1 ∙ ap (λ tree. after tree t.1) t.3) in
+    let own : length (drop (first_by part first (made t.0 t.1)) (seen_by seen part first (made t.0 t.1))) ≡ suc (length (drop first seen)) = omega (arith, ap length (own-by seen part first (made t.0 t.1) low le), length-append (drop first seen) (made t.0 t.1 ∷ [])) in
+    let room : length (seen_by seen part first (made t.0 t.1)) ≤ first_by part first (made t.0 t.1) + 13 = omega (arith, few, own, length-drop (first_by part first (made t.0 t.1)) (seen_by seen part first (made t.0 t.1))) in
+    let now : new.phase ≡ phase_after (phase_at seen first) t.0 t.1 = ap (λ (z : Seat). z.phase) t.4.after ∙ ap (λ p. phase_after p t.0 t.1) phase in
+    let phase_now : phase_at (seen_by seen part first (made t.0 t.1)) (first_by part first (made t.0 t.1)) ≡ new.phase = phase-by seen part first t.0 t.1 low le ∙ sym now in
+    let under : UnderBy count state u.op step seen part first (made t.0 t.1) = record {
+      is = steps.is count way.is;
+      rest = rw more t.5;
+      counts = rw (own, more) counts;
+      phase = rw phase_now steps.at;
+      tidy = subst (λ p. IsTidy part (first_by part first (made t.0 t.1)) step.stage p) (sym phase_now) (tidy-step part first t.0 t.1 u.stage step.stage (phase_at seen first) new.phase now steps.goes steps.at way.tidy);
+    } in
+    record {
+      s = t.0;
+      x = t.1;
+      k = t.2;
+      asks = t.3;
+      makes = t.4;
+      event = event;
+      few = subst (λ e. length (seen_by seen part first e) ≤ first_by part first e + 13) (sym event) room;
+      more = more;
+      phase = subst (λ e. phase_at (seen_by seen part first e) (first_by part first e) ≡ new.phase) (sym event) phase_now;
+      under = subst (UnderBy count state u.op step seen part first) (sym event) under;
+    }
+
+-- the turn that makes a step and settles
+pub turned-by : (v v1 n : Vp) (op : Op) (old new : Seat) (step : StageStep) (turn : CpuTurn) → (st : Stepped v.limits.pages v.state op v.seen v.part v.first old new step) → v1 ≡ saw_so (Some op) v step.event → n ≡ settled (rest_of v1 v1.op) v1 → turn ≡ answer_at (rest_of v1 v1.op) n.ended
+    → TurnsBy (rest_of v (Some op)) (Some op) v old n new turn
+turned-by v v1 n op old new step turn st e en et =
+    let same : v1 ≡ saw_so (Some op) v (made st.s st.x) = e ∙ ap (saw_so (Some op) v) st.event in
+    rw st.asks (st.x, st.makes, rw (same, st.more, ← saw-by (Some op) v (made st.s st.x)) at en, rw (same, st.more) at et)
+
+-- the turn that only settles
+abbrev pub stood_so : Op → Vp → Vp
+stood_so op v = record v { op = Some op; marks = standing v; again = false }
+
+again-stood : (v : Vp) (op : Op) (o : Outcome) (ending : Option Ending) → v.op ≡ Some op → marked_or_ended (stood_so op v) o ending ≡ marked_or_ended v o ending
+again-stood v op o None e = rw (← e) refl
+again-stood v op o (Some ending) e = refl
+
+came-stood : (what : What) (v : Vp) (op : Op) (o : Outcome) → ((grant : Grant) → what ≡ whats.Again grant → v.op ≡ Some op) → came_to what (stood_so op v) o ≡ came_to what v o
+came-stood (whats.Again grant) v op o kept = again-stood v op o (ending_after v o.what o.state (length (standing v)) (v.spins + 1)) (kept grant refl)
+came-stood _ v op o kept = refl
+
+pub local-by : (v v1 n : Vp) (op : Op) (o : Outcome) (seat : Seat) (turn : CpuTurn) → rest_of v (Some op) ≡ Ends o → v1 ≡ stood_so op v → ((grant : Grant) → o.what ≡ whats.Again grant → v.op ≡ Some op) → n ≡ settled (rest_of v1 v1.op) v1 → turn ≡ answer_at (rest_of v1 v1.op) n.ended
+    → TurnsBy (rest_of v (Some op)) (Some op) v seat n seat turn
+local-by v v1 n op o seat turn ends e kept en et =
+    rw ends (refl, (rw (e, ends) at en) ∙ came-stood o.what v op o kept, rw (e, ends) at et)
+
+fresh-no-again : (count : ℕ) (state : State) (op : Op) (seen : List Event) (first : ℕ) (o : Outcome) (grant : Grant) → first ≡ length seen → follow (attempt count state op) (answers_of seen first) ≡ Ends o → o.what ≢ whats.Again grant
+fresh-no-again count state op seen first o grant e ends =
+    let none : drop first seen ≡ [] = none-seen seen first e in
+    let at : attempt count state op ≡ Ends o = rw none at ends in
+    let never : NoAgain (Ends o) = rw at at (attempt-no-again count state op) in
+    never grant
+
+-- where nothing was done, a spin found another value only if its operation was kept
+pub again-kept : (count : ℕ) (state : State) (under : Option Under) (u : Under) (seen : List Event) (part first : ℕ) (o : Outcome) (grant : Grant) → Means count state under seen part first → IfSome under (λ w. u ≡ w) → follow (attempt count state u.op) (answers_of seen first) ≡ Ends o → o.what ≡ whats.Again grant → op_of under ≡ Some u.op
+again-kept count state None u seen part first o grant means kept ends again = absurd (fresh-no-again count state u.op seen first o grant means.0 ends again)
+again-kept count state (Some w) u seen part first o grant means kept ends again = ap (λ (z : Under). Some z.op) (sym kept)

@@ -1,0 +1,31 @@
+// What a turn came to.
+ghost use Rattle.std.specs.Prelude.{◌≡◌};
+ghost use Rattle.cpu.specs.Turns.{after_mark};
+
+use vsm_core::{Ending, What};
+
+/// What one turn of a processor came to.
+#[derive(Clone, Copy, Debug, PartialEq, Eq)]
+pub enum CpuTurn {
+    /// It made a step, and its attempt goes on.
+    Moved,
+    /// It hasn't started, and its start word was 0.
+    Idle,
+    /// It left a mark that stays.
+    Attempt,
+    /// It left the mark of a spin that found another value, which stands until its next turn.
+    Again,
+    /// It runs no more.
+    Ended(Ending),
+}
+
+/// What a turn answers by which an attempt came to this.
+pub fn after_mark(what: &What, ended: Option<Ending>) -> CpuTurn
+    ensures { result ≡ after_mark what.now ended }
+{
+    match ended {
+        Some(ending) => CpuTurn::Ended(ending),
+        None if matches!(what, What::Again(_)) => CpuTurn::Again,
+        None => CpuTurn::Attempt,
+    }
+}

@@ -1,0 +1,62 @@
+-- Processors before their first attempts.
+use Rattle.std.proofs.Common.{◌≡◌, ◌<◌, ◌+◌, ℕ, zero, suc, true, nat_lt, Some, List, [], ◌∷◌, ◌++◌, length, map, replicate, get_or, slice_get, refl, sym, ap, subst, ◌∙◌, zero-add, arith}
+use Rattle.std.specs.List.{range_with_len}
+use Rattle.std.proofs.lemmas.Bool.Decides.{nat_tests}
+use Rattle.std.proofs.lemmas.List.FromFn.{length-map-range_with_len, get_or-map-range_with_len, map-range_with_len_more}
+use Rattle.std.proofs.lemmas.Option.{slice_get_within, get_or_from_slice_get}
+use Rattle.vsm_core.specs.declared.event.Phase.TheVariants.{Idle}
+use Rattle.vsm_core.specs.declared.operation.Program.{Program}
+use Rattle.vsm_core.specs.Processor.{Vp, opening}
+use Rattle.guest_script.specs.declared.script.Script.{Script}
+use Rattle.guest_script.specs.Programs.{program_at}
+use Rattle.vsm_report.specs.Acting.{opening_vp, opening_vps}
+use Rattle.vsm_run.specs.Fits.{Fits, FitsOne}
+use Rattle.vsm_run.specs.Rests.{AllIdle, IsInPlace}
+use Rattle.vsm_run.proofs.Acts.{AllInPlace, program_here}
+
+pub all_idle : (n : ℕ) → AllIdle (replicate n Idle)
+all_idle zero p = refl
+all_idle (suc n) zero = refl
+all_idle (suc n) (suc p) = all_idle n p
+
+-- one processor more
+pub opening-more : (s : Script) (p : ℕ) (program : Program) (v : Vp) (vps : List Vp) → p < length s.programs → program ≡ get_or s.programs p program
+    → v ≡ opening p s.limits (nat_lt p s.started) (length program.zero) (length program.one) → vps ≡ map (opening_vp s) (range_with_len 0 p) → vps ++ v ∷ [] ≡ map (opening_vp s) (range_with_len 0 (p + 1))
+opening-more s p program v vps low at is before =
+    let own : v ≡ opening_vp s p = is ∙ ap (λ (q : Program). opening p s.limits (nat_lt p s.started) (length q.zero) (length q.one)) (sym (program_here s.programs p program low at)) in
+    ap (λ us. us ++ v ∷ []) before ∙ ap (λ u. map (opening_vp s) (range_with_len 0 p) ++ u ∷ []) own ∙ sym (map-range_with_len_more (opening_vp s) 0 p p (zero-add p))
+
+-- the processor at a place
+record StandsAt (s : Script) (p : ℕ) (u : Vp) : Type 0 where
+  low : p < length s.programs
+  is : opening_vp s p ≡ u
+
+opening-at : (s : Script) (p : ℕ) (u : Vp) → slice_get (opening_vps s) p ≡ Some u → StandsAt s p u
+unfolding opening_vps
+opening-at s p u e =
+    let n = length s.programs in
+    let low : p < n = subst (λ k. p < k) (length-map-range_with_len (opening_vp s) 0 n) (slice_get_within (map (opening_vp s) (range_with_len 0 n)) p u e) in
+    record { low = low; is = sym (get_or-map-range_with_len (opening_vp s) 0 n p p u low (zero-add p)) ∙ get_or_from_slice_get (map (opening_vp s) (range_with_len 0 n)) p u u e }
+
+pub length-opening_vps : (s : Script) → length (opening_vps s) ≡ length s.programs
+unfolding opening_vps
+length-opening_vps s = length-map-range_with_len (opening_vp s) 0 (length s.programs)
+
+module _ (s : Script) (programs : length s.programs ≡ s.limits.vps) (started : s.started ≡ s.limits.vps) where
+  first-in-place : (p : ℕ) → p < length s.programs → IsInPlace s.limits p (opening_vp s p)
+  first-in-place p low = record {
+    number = refl;
+    within = omega (arith, programs);
+    limits_same = refl;
+    started = grind (arith, nat_tests, programs, started);
+    rests = record { first = refl; part = omega arith };
+  }
+
+  pub opening-in-place : AllInPlace s.limits (opening_vps s)
+  opening-in-place p u e = let at = opening-at s p u e in subst (IsInPlace s.limits p) at.is (first-in-place p at.low)
+
+pub opening-fit : (s : Script) → Fits s.programs (opening_vps s)
+opening-fit s = record {
+  many = length-opening_vps s;
+  each = λ p u e. subst (FitsOne (program_at s.programs p)) (opening-at s p u e).is (record { zero = refl; one = refl; kept = tt });
+}

@@ -1,0 +1,7 @@
+pub mod Acts
+pub mod Attempts
+pub mod Finishes
+pub mod First
+pub mod Reports
+pub mod Turning
+pub mod Wholes

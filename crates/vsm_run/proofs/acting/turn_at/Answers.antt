@@ -1,0 +1,10 @@
+use Rattle.std.proofs.Common.{rules, refl}
+use Rattle.fabric.specs.Seats.{plain_seat}
+use Rattle.vsm_core.specs.Processor.{operation_at}
+use Rattle.vsm_run.proofs.Wholes.{turn-leads}
+use Rattle.vsm_run.proofs.acting.turn_at.Goals as goal
+
+pub returns-clause-leads : goal.returns-clause-leads
+returns-clause-leads c =
+    turn-leads c.args.fabric.now.limits c.args.cpu.now.number (operation_at c.args.program.now c.args.cpu.now.state) c.args.cpu.now c.turn-turn.new.self (plain_seat c.port-port.result) (plain_seat c.turn-turn.new.port) c.args.fabric.now.fabric c.turn-turn.new.port.fabric.now.fabric c.turn-turn.result
+    (record { told = search rules; tells = search rules; limits_same = search rules; number = search rules }) c.requires.ordered (c.turn-turn.ensures.turned c.requires.started) _ (search rules)

@@ -1,0 +1,18 @@
+-- A run under way as contracts see it, and what is so between two attempts.
+use Rattle.std.specs.Prelude.{◌≡◌, ℕ, Some, slice_get}
+use Rattle.vsm_core.specs.Processor.{Vp}
+use Rattle.vsm_run.specs.Rests.{AllIdle, IsInPlace}
+use Rattle.vsm_run.specs.Running.{Running}
+use Rattle.vsm_run.specs.declared.run.Run.TheInside.{Inside}
+
+abbrev pub view_of : Inside → Running
+view_of r = record {
+  world = record { words = r.fabric.fabric.words; vps = r.cpus.items; lines = r.lines.0 };
+  room = r.lines.1;
+  limits = r.fabric.limits;
+}
+
+-- no processor is in an access, and each is in its place
+pub record IsReady (r : Inside) : Type 0 where
+  pub idle : AllIdle r.fabric.fabric.phases
+  pub each : (p : ℕ) (v : Vp) → slice_get r.cpus.items p ≡ Some v → IsInPlace r.fabric.limits p v

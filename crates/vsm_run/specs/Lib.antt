@@ -1,0 +1,6 @@
+pub mod Fits
+pub mod Held
+pub mod Rests
+pub mod Rooms
+pub mod Running
+pub mod Wholes
