@@ -1,5 +1,5 @@
 // The assist page of level 1.
-ghost use Rattle.std.specs.Prelude.{◌≡◌, false};
+ghost use Rattle.std.specs.Prelude.{◌≡◌, ◌<◌, IfSome, false};
 ghost use Rattle.vsm_core.specs.Switch.{assist_page as assist_page_lem, entry_word as entry_word_lem, reason_of as reason_of_lem, vina_of as vina_of_lem};
 ghost use Rattle.vtl_state.specs.States.{state_of};
 ghost use Rattle.vtl_switch.specs.Answers.{number_of};
@@ -10,7 +10,8 @@ use vtl_state::Levels;
 
 /// Level 1's assist page among so many, where it is on.
 pub fn assist_page(bank: &Bank, levels: &Levels, pages: u32) -> Option<Page>
-    ensures { number_of result ≡ assist_page_lem pages (state_of bank.now levels.now) }
+    ensures page { number_of result ≡ assist_page_lem pages (state_of bank.now levels.now) }
+    ensures below { IfSome result (λ page. page.0 < pages) }
 {
     let word = (bank.get(Vtl::One, Name::VpAssistPage) % (1 << 64)) as u64;
     let page = word / 4096;

@@ -6,7 +6,7 @@ mod lawful;
 mod switches;
 
 pub use assist::{entry_word, reason_of, vina_of};
-pub use switches::{Back, Refused, call, give_back, interrupt_entry, return_kind};
+pub use switches::{Back, Refused, call, call_kind, give_back, interrupt_entry, return_kind};
 
 #[cfg(test)]
 mod tests;

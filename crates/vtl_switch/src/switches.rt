@@ -1,5 +1,5 @@
 // The switches.
-ghost use Rattle.std.specs.Prelude.{◌≡◌, ◌↔◌, IsOk, IsTrue, IfOk, OnOk, OnErr};
+ghost use Rattle.std.specs.Prelude.{◌≡◌, ◌↔◌, ◌<◌, IsOk, IsTrue, IfOk, IfSome, OnOk, OnErr};
 ghost use Rattle.vsm_base.specs.declared.name.Name.{Name};
 ghost use Rattle.vsm_base.specs.declared.places.Vtl.{Vtl};
 ghost use Rattle.vsm_core.specs.Registers.{get};
@@ -31,6 +31,24 @@ pub enum Back {
     Restore(Page),
     /// They are kept, since level 1's assist page is off.
     Plain,
+}
+
+/// Where a call would tell the reason of its entry, on so many pages: level 1's assist page, where it is on. It changes
+/// nothing.
+///
+/// # Errors
+/// `Refused::Undefined` exactly where the call isn't lawful: at a privilege level other than 0, at level 1, where level 1
+/// isn't enabled, or where RCX isn't 0.
+pub fn call_kind(bank: &Bank, levels: &Levels, pages: u32) -> Result<Option<Page>, Refused>
+    ensures exact { IsOk result ↔ IsTrue (may_call_lem (state_of bank.now levels.now)) }
+    ensures page { IfOk result (λ page. number_of page ≡ assist_page_lem pages (state_of bank.now levels.now)) }
+    ensures below { IfOk result (λ page. IfSome page (λ p. p.0 < pages)) }
+{
+    if !may_call(bank, levels) {
+        return Err(Refused::Undefined);
+    }
+    let told = assist_page(bank, levels, pages);
+    Ok(told)
 }
 
 /// The call of level 1 by level 0 (TLFS, Virtual Secure Mode, VTL Call): level 0 goes past its operation, and level 1 is
@@ -88,6 +106,7 @@ pub fn return_kind(bank: &Bank, levels: &Levels, pages: u32) -> Result<Back, Ref
     ensures exact { IsOk result ↔ IsTrue (may_return_lem (state_of bank.now levels.now)) }
     ensures fast { IfOk result (λ back. is_fast_back back ≡ is_fast_lem (state_of bank.now levels.now)) }
     ensures page { IfOk result (λ back. page_of back ≡ restored_from pages (state_of bank.now levels.now)) }
+    ensures below { IfOk result (λ back. IfSome (page_of back) (λ page. page < pages)) }
 {
     if !may_return(bank, levels) {
         return Err(Refused::Undefined);

@@ -77,6 +77,7 @@ fn refuses(m: &mut Machine, entry: bool) -> bool {
     let levels = m.levels;
     let Machine { bank, levels: now } = m;
     call(bank, now, 4) == Err(Refused::Undefined)
+        && call_kind(bank, now, 4) == Err(Refused::Undefined)
         && (!entry || interrupt_entry(bank, now, 4) == Err(Refused::Undefined))
         && return_kind(bank, now, 4) == Err(Refused::Undefined)
         && give_back(bank, now, Some((7, 8))) == Err(Refused::Undefined)
@@ -95,6 +96,7 @@ fn a_call_goes_on_and_enters(rt: HostRuntime) {
         let Some(mut m) = prepared(Vtl::Zero, assist) else {
             panic!(rt);
         };
+        assert_eq!(rt; call_kind(&m.bank, &m.levels, 4), Ok(page));
         assert_eq!(rt; call(&mut m.bank, &mut m.levels, 4), Ok(page));
         assert_eq!(rt; m.levels.active(), Vtl::One);
         let mut wanted = FILLED;
