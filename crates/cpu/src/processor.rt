@@ -12,13 +12,15 @@ use crate::cpu_turn::{CpuTurn, after_mark};
 use crate::endings::{ending, ending_on, opening_ending};
 use crate::log::Log;
 use crate::operations::{Decided, again, finish};
-use crate::registers::word_of;
-use crate::stage::{Stage, Under, begin, begun, is_going, step};
+use crate::beginning::{begin, begun};
+use crate::stage::{Stage, Under, is_going};
+use crate::stepping::step;
 use fabric::Port;
 use register_file::Bank;
 use std::alloc::Global;
 use std::marker::Model;
 use vsm_base::{Items, Limits, Memory, Name, Reserved, VpIndex, Vtl};
+use vtl_state::{Levels, word_of};
 use vsm_core::{Ending, Event, Grant, GuestFault, Mark, Op, PendingWord, Phase, Program, What};
 
 /// A virtual processor.
@@ -30,7 +32,7 @@ pub struct Cpu {
     one_length: usize,
     started: bool,
     bank: Bank,
-    active: Vtl,
+    levels: Levels,
     under: Option<Under>,
     log: Log,
 }
@@ -46,19 +48,19 @@ impl Model for Cpu {
     ghost invariant = { IsSound };
 }
 
-fn length_of(zero: usize, one: usize, level: Vtl) -> usize
-    ensures { result ≡ length_at zero one level }
+fn length_of(zero: usize, one: usize, levels: &Levels) -> usize
+    ensures { result ≡ length_at zero one levels.now.active }
 {
-    match level {
+    match levels.active() {
         Vtl::Zero => zero,
         Vtl::One => one,
     }
 }
 
-fn operations(program: &Program, level: Vtl) -> &[Op]
-    ensures { result.now ≡ operations_of program.now level }
+fn operations<'a>(program: &'a Program, levels: &Levels) -> &'a [Op]
+    ensures { result.now ≡ operations_of program.now levels.now.active }
 {
-    match level {
+    match levels.active() {
         Vtl::Zero => program.zero.as_slice(),
         Vtl::One => program.one.as_slice(),
     }
@@ -100,7 +102,7 @@ impl Cpu {
             one_length: program.one.len(),
             started,
             bank: Bank::opening(),
-            active: Vtl::Zero,
+            levels: Levels::opening(),
             under: None,
             log,
         })
@@ -121,15 +123,17 @@ impl Cpu {
         ensures kept { Keeps self.old self.new }
         ensures within { length self.new.marks ≤ self.old.limits.budget }
     {
-        let rip = word_of(&self.bank, self.active, Name::Rip);
-        let what = finish(&mut self.bank, self.active, op, decided);
-        let now = word_of(&self.bank, self.active, Name::Rip);
-        let length = length_of(self.zero_length, self.one_length, self.active);
+        let level = self.levels.active();
+        let rip = word_of(&self.bank, &self.levels, Name::Rip);
+        let pages = self.limits.pages;
+        let what = finish(&mut self.bank, &mut self.levels, pages, op, decided);
+        let now = word_of(&self.bank, &self.levels, Name::Rip);
+        let length = length_of(self.zero_length, self.one_length, &self.levels);
         let marks = self.log.marks.as_slice().len() + 1;
         let ended = ending(length, self.limits.budget, &what, now, marks, self.log.spins);
         let turn = after_mark(&what, ended);
         self.under = None;
-        self.log.mark(self.active, rip, what, ended);
+        self.log.mark(level, rip, what, ended);
         turn
     }
 
@@ -151,8 +155,9 @@ impl Cpu {
         ensures kept { Keeps self.old self.new }
         ensures within { length self.new.marks ≤ self.old.limits.budget }
     {
-        let rip = word_of(&self.bank, self.active, Name::Rip);
-        let length = length_of(self.zero_length, self.one_length, self.active);
+        let level = self.levels.active();
+        let rip = word_of(&self.bank, &self.levels, Name::Rip);
+        let length = length_of(self.zero_length, self.one_length, &self.levels);
         let marks = self.log.marks.as_slice().len();
         let spins = self.log.spins + 1;
         match ending_on(length, self.limits.budget, rip, marks, spins) {
@@ -162,9 +167,9 @@ impl Cpu {
                 CpuTurn::Ended(ending)
             }
             None => {
-                let stage = begin(self.limits.pages, &self.bank, self.active, op);
+                let stage = begin(self.limits.pages, &self.bank, &self.levels, op);
                 self.under = Some(Under { op, stage });
-                self.log.mark_again(self.active, rip, grant);
+                self.log.mark_again(level, rip, grant);
                 CpuTurn::Again
             }
         }
@@ -211,8 +216,8 @@ impl Cpu {
         ensures kept { IfSome self.new.op (λ op. operation_at program.now self.new.state ≡ Some op) }
         ensures within { length self.new.marks ≤ self.old.limits.budget }
     {
-        let ops = operations(program, self.active);
-        let under = begun(self.limits.pages, &self.bank, self.active, self.under, ops);
+        let ops = operations(program, &self.levels);
+        let under = begun(self.limits.pages, &self.bank, &self.levels, self.under, ops);
         self.log.stand();
         self.under = Some(under);
         if !is_going(&under.stage) {
@@ -240,7 +245,8 @@ impl Cpu {
         ensures idle { self.new.op ≡ None }
         ensures within { length self.new.marks ≤ self.old.limits.budget }
     {
-        let rip = word_of(&self.bank, self.active, Name::Rip);
+        let level = self.levels.active();
+        let rip = word_of(&self.bank, &self.levels, Name::Rip);
         let bits = port.take(PendingWord::Start);
         if bits == 0 {
             return CpuTurn::Idle;
@@ -250,7 +256,7 @@ impl Cpu {
             word: PendingWord::Start,
             bits,
         });
-        self.log.mark(self.active, rip, What::Fault(fault), Some(Ending::Fault(fault)));
+        self.log.mark(level, rip, What::Fault(fault), Some(Ending::Fault(fault)));
         self.under = None;
         CpuTurn::Ended(Ending::Fault(fault))
     }
@@ -339,6 +345,14 @@ impl Cpu {
         ensures { result.now ≡ self.now.state.registers }
     {
         &self.bank
+    }
+
+    /// The levels: which is active, and whether level 1 is enabled.
+    pub fn levels(&self) -> &Levels
+        ensures active { result.now.active ≡ self.now.state.active }
+        ensures enabled { result.now.enabled ≡ self.now.state.enabled }
+    {
+        &self.levels
     }
 
     /// The marks and the events, oldest first.

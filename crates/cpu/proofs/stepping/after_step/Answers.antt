@@ -1,7 +1,7 @@
 use Rattle.std.proofs.Common.{◌≡◌, refl}
 use Rattle.vsm_core.specs.Attempt.{fills}
 use Rattle.access_path.specs.Rest.{Goes}
-use Rattle.cpu.proofs.stage.after_step.Goals as goal
+use Rattle.cpu.proofs.stepping.after_step.Goals as goal
 
 pub returns-in-Granted-clause-rest : goal.returns-in-Granted-clause-rest
 returns-in-Granted-clause-rest c = λ state op t g. let h = rw c.in-Granted.is at g in rw h.1 (fills state.active h.0, refl)

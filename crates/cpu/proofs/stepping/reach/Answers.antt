@@ -2,7 +2,7 @@ use Rattle.std.proofs.Common.{rules, ◌≡◌, sym}
 use Rattle.cpu.specs.Stages.{StageRest, StageIs}
 use Rattle.access_path.specs.Rest.{Goes}
 use Rattle.cpu.proofs.Steps.{Turned-then_}
-use Rattle.cpu.proofs.stage.reach.Goals as goal
+use Rattle.cpu.proofs.stepping.reach.Goals as goal
 
 pub returns : goal.returns
 returns g c = record {
