@@ -13,11 +13,11 @@ same-some : {A : Type 0} (a b : A) → Some a ≡ Some b → a ≡ b
 same-some a b e = cc
 
 -- the access of a call that tells this page its reason
-told_at : Bool → State → ℕ → Tree Outcome
+abbrev pub told_at : Bool → State → ℕ → Tree Outcome
 told_at lawful state page = gate_rest Outside (Asks (Writing page reason_index (entry_word by_call)) (λ _. left_as (switched lawful state (called state))))
 
 pub call-tells : (lawful : Bool) (told : Option ℕ) (state : State) (page : ℕ) → cond lawful told None ≡ Some page
-    → cond lawful (enters told by_call (called state)) (Ends (faulted state Undefined)) ≡ gate_rest Outside (Asks (Writing page reason_index (entry_word by_call)) (λ _. left_as (switched lawful state (called state))))
+    → cond lawful (enters told by_call (called state)) (Ends (faulted state Undefined)) ≡ told_at lawful state page
 call-tells true None state page e = cc
 call-tells true (Some told) state page e = ap (told_at true state) (same-some told page e)
 call-tells false told state page e = cc
@@ -28,11 +28,11 @@ call-tells-none true (Some told) state e = cc
 call-tells-none false told state e = ([], refl)
 
 -- the access of a return that takes RAX and RCX from this page
-given_at : Bool → State → ℕ → Tree Outcome
+abbrev pub given_at : Bool → State → ℕ → Tree Outcome
 given_at lawful state page = gate_rest Outside (Asks (Reading page rax_index) (λ rax. Asks (Reading page rcx_index) (λ rcx. left_as (switched lawful state (returned state (Some (rax, rcx)))))))
 
 pub return-takes : (lawful : Bool) (from : Option ℕ) (state : State) (page : ℕ) → cond lawful from None ≡ Some page
-    → cond lawful (returns from state) (Ends (faulted state Undefined)) ≡ gate_rest Outside (Asks (Reading page rax_index) (λ rax. Asks (Reading page rcx_index) (λ rcx. left_as (switched lawful state (returned state (Some (rax, rcx)))))))
+    → cond lawful (returns from state) (Ends (faulted state Undefined)) ≡ given_at lawful state page
 return-takes true None state page e = cc
 return-takes true (Some from) state page e = ap (given_at true state) (same-some from page e)
 return-takes false from state page e = cc
