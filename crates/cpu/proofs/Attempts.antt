@@ -1,21 +1,17 @@
 -- Attempts at their stages.
-use Rattle.std.proofs.Common.{◌≡◌, ◌≢◌, ◌∙◌, ◌⊎◌, inl, inr, ◌+◌, ◌-◌, ◌≤◌, ◌<◌, ℕ, zero, suc, List, [], ◌∷◌, ◌++◌, length, map, drop, take, reverse, true, false, refl, sym, ap, subst, arith, None, Some, length-drop, length-append, append_assoc}
-use Rattle.std.proofs.Math.Seq.{drop-append_seam}
-use Rattle.std.proofs.lemmas.List.{drop-append-le, map-append, reverse-append, length-take-le, drop_all}
+use Rattle.std.proofs.Common.{◌≡◌, ◌≢◌, ℕ, List, [], length, drop, refl}
 use Rattle.vsm_core.specs.declared.event.Event.{Event}
-use Rattle.vsm_core.specs.declared.event.Event.TheVariants.{Check}
 use Rattle.vsm_core.specs.declared.event.Phase.{Phase}
-use Rattle.vsm_core.specs.declared.event.Phase.TheVariants.{Idle, Entered, In}
+use Rattle.vsm_core.specs.declared.event.Phase.TheVariants.{Idle}
 use Rattle.vsm_core.specs.declared.operation.Op.{Op}
-use Rattle.vsm_core.specs.Attempt.{Outcome, attempt, most_steps}
+use Rattle.vsm_core.specs.Attempt.{Outcome, attempt}
 use Rattle.vsm_core.specs.State.{State}
-use Rattle.vsm_core.specs.Tree.{Tree, Ends, Counts, follow}
+use Rattle.vsm_core.specs.Tree.{Tree, Ends}
 use Rattle.vsm_core.proofs.Bounds.{attempt-counts}
 use Rattle.cpu.specs.declared.stage.Stage.{Stage}
 use Rattle.cpu.specs.declared.stage.Stage.TheVariants.{Reach, Touch, Leave, End}
 use Rattle.cpu.specs.declared.stage.Under.{Under}
-use Rattle.cpu.specs.Stages.{StageRest, StageIs, StageAt, IsTidy, IsUnderWay, Means}
-use Rattle.cpu.specs.Turns.{phase_at}
+use Rattle.cpu.specs.Stages.{StageRest, StageIs, StageAt, IsTidy, IsUnderWay}
 use Rattle.cpu.proofs.Lists.{drop-length}
 
 pub none-seen : (seen : List Event) (first : ℕ) → first ≡ length seen → drop first seen ≡ []

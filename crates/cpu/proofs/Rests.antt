@@ -1,8 +1,7 @@
 -- What is left of an attempt at its stages.
-use Rattle.std.proofs.Common.{◌≡◌, ◌≢◌, ◌∙◌, ℕ, ◌==◌, ◌&&◌, Bool, true, false, cond, Option, Some, None, List, [], ◌∷◌, refl, sym, ap, subst}
+use Rattle.std.proofs.Common.{◌≡◌, ◌≢◌, ◌∙◌, ℕ, ◌==◌, ◌&&◌, Bool, true, false, cond, Option, Some, None, List, [], ◌∷◌, refl, sym, ap}
 use Rattle.vsm_base.specs.declared.places.Access.{Access}
 use Rattle.vsm_base.specs.declared.places.Access.TheVariants.{Read, Write, Execute}
-use Rattle.vsm_core.specs.declared.event.Phase.TheVariants.{Idle}
 use Rattle.vsm_core.specs.declared.mark.Grant.{Grant}
 use Rattle.vsm_base.specs.declared.name.Name.{Name}
 use Rattle.vsm_core.specs.declared.mark.GuestFault.{GuestFault}
@@ -12,14 +11,14 @@ use Rattle.vsm_core.specs.declared.mark.What.TheVariants as whats
 use Rattle.vsm_core.specs.declared.mark.What.TheVariants.{Again}
 use Rattle.vsm_core.specs.declared.operation.Op.{Op}
 use Rattle.vsm_core.specs.declared.operation.Op.TheVariants.{Set, Get, Load, Store, Exec, Spin, Jump, JumpNe, VtlCall, VtlReturn}
-use Rattle.vsm_core.specs.Access.{Goal, Decision, data_step, access, start_fault}
-use Rattle.vsm_core.specs.Attempt.{Outcome, attempt, begun, by_access, faulted, leaves, goal_of, loaded, passed, spun, set_outcome, get_outcome, empties, enters, returns}
+use Rattle.vsm_core.specs.Access.{Goal, Decision, data_step, access}
+use Rattle.vsm_core.specs.Attempt.{Outcome, attempt, begun, faulted, goal_of, loaded, passed, spun, set_outcome, get_outcome, empties, enters, returns}
 use Rattle.vsm_core.specs.Fills.{Fill}
 use Rattle.vsm_core.specs.Processor.{Vp, came_to, marked, settled}
 use Rattle.vsm_core.specs.Registers.{is_legal}
 use Rattle.vsm_core.specs.State.{State, operand, gone_on, may_name, get, put}
 use Rattle.vsm_core.specs.Switch.{may_call, may_return, called, returned, assist_page, restored_from, by_call}
-use Rattle.vsm_core.specs.Tree.{Tree, Ends, Asks, Wants, WordStep, then_, follow}
+use Rattle.vsm_core.specs.Tree.{Tree, Ends, Asks, WordStep, then_, follow}
 use Rattle.access_path.specs.declared.aim.Aim.{Aim}
 use Rattle.access_path.specs.declared.place.Place.{Place}
 use Rattle.access_path.specs.declared.place.Place.TheVariants.{Start, Check, TableMask, TableRead, DataMask, Data, Over}
@@ -34,7 +33,7 @@ use Rattle.cpu.specs.declared.task.Task.{Task}
 use Rattle.cpu.specs.declared.task.Task.TheVariants.{Tell, Rax, Rcx}
 use Rattle.cpu.specs.Results.{EndsAs, again_of, granted_of, local_outcome, outcome, result_of, switched}
 use Rattle.cpu.specs.Tasks.{gate_rest, task_rest}
-use Rattle.cpu.specs.Stages.{StageRest, StageAt, IsTidy, is_going}
+use Rattle.cpu.specs.Stages.{StageRest, is_going}
 
 -- a step is next
 abbrev pub IsAsking : {A : Type 0} → Tree A → Type 0

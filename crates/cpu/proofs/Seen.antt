@@ -1,5 +1,5 @@
 -- The events of an attempt, after one more.
-use Rattle.std.proofs.Common.{◌≡◌, ◌∙◌, ◌+◌, ◌-◌, ◌≤◌, ◌<◌, ℕ, suc, List, [], ◌∷◌, ◌++◌, length, map, drop, take, reverse, refl, sym, ap, arith, Option, length-append, length-drop, append_assoc, false}
+use Rattle.std.proofs.Common.{◌≡◌, ◌∙◌, ◌+◌, ◌≤◌, ℕ, List, [], ◌∷◌, ◌++◌, length, map, drop, take, reverse, refl, ap, arith, Option, length-append, append_assoc, false}
 use Rattle.std.proofs.lemmas.List.{drop-append-le, drop_at, map-append, reverse-append, length-take-le}
 use Rattle.vsm_core.specs.declared.event.Event.{Event}
 use Rattle.vsm_core.specs.declared.event.Event.TheVariants as events

@@ -1,10 +1,8 @@
 -- One step of an attempt.
-use Rattle.std.proofs.Common.{◌≡◌, ◌≢◌, ◌⊎◌, inl, inr, ℕ, true, refl, sym, ap, ◌∙◌, Some}
-use Rattle.vsm_core.specs.declared.event.Event.{Event}
-use Rattle.vsm_core.specs.declared.event.Event.TheVariants.{Check}
+use Rattle.std.proofs.Common.{◌≡◌, ℕ, true, refl}
 use Rattle.vsm_core.specs.declared.event.Phase.{Phase}
 use Rattle.vsm_core.specs.declared.event.Phase.TheVariants.{Idle, Entered, In}
-use Rattle.vsm_core.specs.Seat.{Seat, Makes}
+use Rattle.vsm_core.specs.Seat.{Seat}
 use Rattle.vsm_core.specs.Steps.{made, phase_after}
 use Rattle.vsm_core.specs.Tree.{Tree, Ends, Asks, Wants, WordStep, Entering, Checking, Masking, Reading, Writing, Leaving, Posting, Taking, then_}
 use Rattle.vsm_core.specs.Turns.{Turned}

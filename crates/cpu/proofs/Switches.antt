@@ -1,5 +1,5 @@
 -- What is left of a call and of a return before their first step.
-use Rattle.std.proofs.Common.{◌≡◌, ℕ, Bool, true, false, cond, Option, Some, None, [], ap, refl, sym}
+use Rattle.std.proofs.Common.{◌≡◌, ℕ, Bool, true, false, cond, Option, Some, None, [], ap, refl}
 use Rattle.vsm_core.specs.declared.mark.GuestFault.TheVariants.{Undefined}
 use Rattle.vsm_core.specs.Attempt.{Outcome, enters, faulted, returns}
 use Rattle.vsm_core.specs.State.{State}

@@ -1,5 +1,5 @@
 -- A turn, by what its step did.
-use Rattle.std.proofs.Common.{◌≡◌, ◌≢◌, ◌∙◌, ◌+◌, ◌-◌, ◌≤◌, ◌<◌, ℕ, suc, false, List, [], ◌∷◌, ◌++◌, length, map, drop, refl, sym, ap, subst, arith, Option, Some, None, IfSome, length-append, length-drop}
+use Rattle.std.proofs.Common.{◌≡◌, ◌≢◌, ◌∙◌, ◌+◌, ◌≤◌, ℕ, suc, false, List, [], ◌∷◌, ◌++◌, length, drop, refl, sym, ap, subst, arith, Option, Some, None, IfSome, length-append, length-drop}
 use Rattle.vsm_core.specs.declared.event.Event.{Event}
 use Rattle.vsm_core.specs.declared.mark.Ending.{Ending}
 use Rattle.vsm_core.specs.declared.mark.Grant.{Grant}
@@ -8,10 +8,10 @@ use Rattle.vsm_core.specs.declared.mark.What.TheVariants as whats
 use Rattle.vsm_core.specs.declared.operation.Op.{Op}
 use Rattle.vsm_core.specs.declared.request.Reply.{Reply}
 use Rattle.vsm_core.specs.Attempt.{Outcome, attempt, most_steps}
-use Rattle.vsm_core.specs.Processor.{Vp, answers_of, came_to, ending_after, marked_or_ended, rest_of, saw, settled, standing, tree_of}
+use Rattle.vsm_core.specs.Processor.{Vp, answers_of, came_to, ending_after, marked_or_ended, rest_of, settled, standing}
 use Rattle.vsm_core.specs.Seat.{Seat, Makes}
 use Rattle.vsm_core.specs.State.{State}
-use Rattle.vsm_core.specs.Steps.{learned, made, phase_after}
+use Rattle.vsm_core.specs.Steps.{made, phase_after}
 use Rattle.vsm_core.specs.Tree.{Tree, Ends, Asks, Wants, WordStep, after, follow, Counts}
 use Rattle.vsm_core.specs.Turns.{Turned}
 use Rattle.vsm_core.proofs.Bounds.{follow-append, Counts-asks, Counts-most, most_steps-few}
@@ -19,7 +19,7 @@ use Rattle.cpu.specs.declared.cpu_turn.CpuTurn.{CpuTurn}
 use Rattle.cpu.specs.declared.stage.StageStep.{StageStep}
 use Rattle.cpu.specs.declared.stage.Under.{Under}
 use Rattle.cpu.specs.Logs.{first_by, seen_by}
-use Rattle.cpu.specs.Stages.{StageAt, StageRest, StageSteps, IsTidy, IsUnderWay, Means, op_of}
+use Rattle.cpu.specs.Stages.{StageRest, StageSteps, IsTidy, IsUnderWay, Means, op_of}
 use Rattle.cpu.specs.Turns.{TurnsBy, answer_at, phase_at}
 use Rattle.cpu.proofs.Rests.{NoAgain, attempt-no-again}
 use Rattle.cpu.proofs.Attempts.{none-seen}
@@ -63,7 +63,7 @@ stepped count state u seen part first old new step low le phase way steps =
     let few : suc (length (drop first seen)) ≤ 13 = Counts-most most_steps 13 some-reply _ (t.2 t.1) most_steps-few counts in
     let answers : answers_of (seen_by seen part first (made t.0 t.1)) (first_by part first (made t.0 t.1)) ≡ answers_of seen first ++ t.1 ∷ [] = answers-by seen part first (made t.0 t.1) low le ∙ ap (λ z. answers_of seen first ++ z ∷ []) t.4.learns in
     let more : follow (attempt count state u.op) (answers_of (seen_by seen part first (made t.0 t.1)) (first_by part first (made t.0 t.1))) ≡ t.2 t.1 =
-        rw answers (follow-append (attempt count state u.op) (answers_of seen first) t.1 ∙ ap (λ tree. after tree t.1) t.3) in
+    rw answers (follow-append (attempt count state u.op) (answers_of seen first) t.1 ∙ ap (λ tree. after tree t.1) t.3) in
     let own : length (drop (first_by part first (made t.0 t.1)) (seen_by seen part first (made t.0 t.1))) ≡ suc (length (drop first seen)) = omega (arith, ap length (own-by seen part first (made t.0 t.1) low le), length-append (drop first seen) (made t.0 t.1 ∷ [])) in
     let room : length (seen_by seen part first (made t.0 t.1)) ≤ first_by part first (made t.0 t.1) + 13 = omega (arith, few, own, length-drop (first_by part first (made t.0 t.1)) (seen_by seen part first (made t.0 t.1))) in
     let now : new.phase ≡ phase_after (phase_at seen first) t.0 t.1 = ap (λ (z : Seat). z.phase) t.4.after ∙ ap (λ p. phase_after p t.0 t.1) phase in

@@ -1,12 +1,12 @@
 -- What an attempt has come to, by the decision of its access.
-use Rattle.std.specs.Prelude.{◌≡◌, ℕ, ◌==◌, Bool, if◌then◌else◌, List, [], Option, Some, None}
+use Rattle.std.specs.Prelude.{◌≡◌, ◌==◌, Bool, if◌then◌else◌, List, [], Option, Some, None}
 use Rattle.vsm_core.specs.declared.mark.Grant.{Grant}
 use Rattle.vsm_core.specs.declared.mark.GuestFault.TheVariants.{Undefined}
 use Rattle.vsm_core.specs.declared.mark.Posted.TheVariants.{Held}
 use Rattle.vsm_core.specs.declared.mark.What.{What}
 use Rattle.vsm_core.specs.declared.mark.What.TheVariants as whats
 use Rattle.vsm_core.specs.declared.operation.Op.{Op}
-use Rattle.vsm_core.specs.declared.operation.Op.TheVariants.{Set, Get, Load, Store, Exec, Spin, Jump, JumpNe}
+use Rattle.vsm_core.specs.declared.operation.Op.TheVariants.{Set, Get, Load, Spin, Jump, JumpNe}
 use Rattle.vsm_core.specs.Attempt.{Outcome, faulted, plain, set_outcome, get_outcome, jumped, loaded, passed, spun}
 use Rattle.vsm_core.specs.Fills.{Cached}
 use Rattle.vsm_core.specs.State.{State, gone_to}

@@ -10,7 +10,7 @@ use Rattle.vsm_core.specs.Attempt.{Outcome, attempt, leaves, most_steps}
 use Rattle.vsm_core.specs.Fills.{Cached}
 use Rattle.vsm_core.specs.Seat.{Seat}
 use Rattle.vsm_core.specs.State.{State}
-use Rattle.vsm_core.specs.Steps.{IsIn, learned, phase_of}
+use Rattle.vsm_core.specs.Steps.{IsIn, learned}
 use Rattle.vsm_core.specs.Tree.{Tree, Ends, Asks, Leaving, then_, follow, Counts}
 use Rattle.vsm_core.specs.Turns.{Turned}
 use Rattle.access_path.specs.declared.place.Place.TheVariants.{Over}

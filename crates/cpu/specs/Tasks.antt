@@ -1,5 +1,5 @@
 -- What is left of an attempt that touches a few memory words in an access of their own.
-use Rattle.std.specs.Prelude.{◌≡◌, ℕ, ◌<◌, Option, Some}
+use Rattle.std.specs.Prelude.{◌≡◌, ℕ, ◌<◌, Some}
 use Rattle.vsm_core.specs.declared.event.Phase.{Phase}
 use Rattle.vsm_core.specs.declared.event.Phase.TheVariants as phases
 use Rattle.vsm_core.specs.declared.mark.What.{What}

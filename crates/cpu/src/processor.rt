@@ -8,11 +8,11 @@ ghost use Rattle.cpu.specs.Sound.{length_at};
 ghost use Rattle.cpu.specs.Results.{outcome, result_of};
 ghost use Rattle.cpu.specs.Turns.{Keeps, VpServes, TurnsBy, Wakes, answer_at, after_mark, phase_at};
 
+use crate::beginning::{begin, begun};
 use crate::cpu_turn::{CpuTurn, after_mark};
 use crate::endings::{ending, ending_on, opening_ending};
 use crate::log::Log;
 use crate::operations::{Decided, again, finish};
-use crate::beginning::{begin, begun};
 use crate::stage::{Stage, Under, is_going};
 use crate::stepping::step;
 use fabric::Port;
@@ -20,8 +20,8 @@ use register_file::Bank;
 use std::alloc::Global;
 use std::marker::Model;
 use vsm_base::{Items, Limits, Memory, Name, Reserved, VpIndex, Vtl};
-use vtl_state::{Levels, word_of};
 use vsm_core::{Ending, Event, Grant, GuestFault, Mark, Op, PendingWord, Phase, Program, What};
+use vtl_state::{Levels, word_of};
 
 /// A virtual processor.
 #[derive(Drop)]
@@ -130,7 +130,14 @@ impl Cpu {
         let now = word_of(&self.bank, &self.levels, Name::Rip);
         let length = length_of(self.zero_length, self.one_length, &self.levels);
         let marks = self.log.marks.as_slice().len() + 1;
-        let ended = ending(length, self.limits.budget, &what, now, marks, self.log.spins);
+        let ended = ending(
+            length,
+            self.limits.budget,
+            &what,
+            now,
+            marks,
+            self.log.spins,
+        );
         let turn = after_mark(&what, ended);
         self.under = None;
         self.log.mark(level, rip, what, ended);
@@ -256,7 +263,8 @@ impl Cpu {
             word: PendingWord::Start,
             bits,
         });
-        self.log.mark(level, rip, What::Fault(fault), Some(Ending::Fault(fault)));
+        self.log
+            .mark(level, rip, What::Fault(fault), Some(Ending::Fault(fault)));
         self.under = None;
         CpuTurn::Ended(Ending::Fault(fault))
     }

@@ -19,9 +19,7 @@ pub fn go_to(bank: &mut Bank, levels: &Levels, rip: u64)
 pub fn may_name(bank: &Bank, levels: &Levels, name: Name) -> bool
     ensures { result ≡ may_name_lem (state_of bank.now levels.now) name }
 {
-    privilege_of(bank, levels) == 0
-        || matches!(name, Name::Rsp | Name::Rflags)
-        || name.general()
+    privilege_of(bank, levels) == 0 || matches!(name, Name::Rsp | Name::Rflags) || name.general()
 }
 
 /// What a store writes.

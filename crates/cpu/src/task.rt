@@ -24,7 +24,12 @@ pub enum Task {
         decided: Decided,
     },
     /// A return reads what becomes RAX, and then what becomes RCX.
-    Rax { page: Page },
+    Rax {
+        page: Page,
+    },
     /// A return has read what becomes RAX.
-    Rcx { page: Page, rax: u64 },
+    Rcx {
+        page: Page,
+        rax: u64,
+    },
 }

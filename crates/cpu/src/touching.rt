@@ -11,6 +11,7 @@ use vsm_core::Event;
 
 /// The places in the assist page of what a return makes RAX and RCX (TLFS, Virtual Processor Assist Page, VTL control).
 const RAX: u16 = 2;
+
 const RCX: u16 = 3;
 
 fn enter<P: Port>(task: Task, port: &mut P) -> StageStep
@@ -41,13 +42,7 @@ fn check<P: Port>(task: Task, port: &mut P) -> StageStep
     }
 }
 
-fn tell<P: Port>(
-    page: Page,
-    index: u16,
-    word: u64,
-    decided: Decided,
-    port: &mut P,
-) -> StageStep
+fn tell<P: Port>(page: Page, index: u16, word: u64, decided: Decided, port: &mut P) -> StageStep
     requires { StageServes (Stage.Touch Gate.Inside (Task.Tell page index word decided)) (P.seat port.old) }
     ensures { StageSteps (Stage.Touch Gate.Inside (Task.Tell page index word decided)) (P.seat port.old) (P.seat port.new) result }
 {

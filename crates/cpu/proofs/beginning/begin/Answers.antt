@@ -1,4 +1,4 @@
-use Rattle.std.proofs.Common.{refl, rules}
+use Rattle.std.proofs.Common.{refl}
 use Rattle.vtl_state.specs.States.{state_of}
 use Rattle.cpu.proofs.Ops.{goal-so, local-so}
 use Rattle.cpu.proofs.beginning.begin.Goals as goal

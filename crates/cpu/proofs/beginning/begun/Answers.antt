@@ -1,4 +1,3 @@
-use Rattle.std.proofs.Common.{rules, ◌≡◌, Some, ap, ◌∙◌, sym, refl, slice_get, arith}
 use Rattle.std.proofs.lemmas.Option.{slice_get-get_or}
 use Rattle.vtl_state.specs.States.{state_of}
 use Rattle.cpu.proofs.Attempts.{begun-means}

@@ -1,4 +1,4 @@
-use Rattle.std.proofs.Common.{◌≡◌, ◌∙◌, sym, ap}
+use Rattle.std.proofs.Common.{◌∙◌, sym, ap}
 use Rattle.vsm_core.specs.State.{State}
 use Rattle.vsm_core.specs.Switch.{may_call, assist_page}
 use Rattle.vtl_state.specs.States.{state_of}

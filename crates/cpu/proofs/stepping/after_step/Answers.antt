@@ -1,6 +1,5 @@
-use Rattle.std.proofs.Common.{◌≡◌, refl}
+use Rattle.std.proofs.Common.{refl}
 use Rattle.vsm_core.specs.Attempt.{fills}
-use Rattle.access_path.specs.Rest.{Goes}
 use Rattle.cpu.proofs.stepping.after_step.Goals as goal
 
 pub returns-in-Granted-clause-rest : goal.returns-in-Granted-clause-rest

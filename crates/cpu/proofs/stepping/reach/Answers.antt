@@ -1,5 +1,5 @@
-use Rattle.std.proofs.Common.{rules, ◌≡◌, sym}
-use Rattle.cpu.specs.Stages.{StageRest, StageIs}
+use Rattle.std.proofs.Common.{◌≡◌}
+use Rattle.cpu.specs.Stages.{StageRest}
 use Rattle.access_path.specs.Rest.{Goes}
 use Rattle.cpu.proofs.Steps.{Turned-then_}
 use Rattle.cpu.proofs.stepping.reach.Goals as goal

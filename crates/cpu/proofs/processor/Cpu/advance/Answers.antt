@@ -1,10 +1,9 @@
-use Rattle.std.proofs.Common.{rules, arith, ◌≡◌, ◌≤◌, ◌<◌, ◌+◌, ◌*◌, Some, None, true, false, refl, sym, ap, ◌∙◌, length, length-drop, slice_get}
-use Rattle.vsm_core.specs.Processor.{Vp, operations_of, operation_at}
+use Rattle.std.proofs.Common.{arith, ◌≡◌, Some, None, true, false, refl, sym, ap, ◌∙◌}
+use Rattle.vsm_core.specs.Processor.{Vp, operation_at}
 use Rattle.vsm_core.specs.Seat.{Seat}
-use Rattle.cpu.specs.Logs.{standing_of, seen_by, first_by}
 use Rattle.vtl_state.specs.States.{state_of}
 use Rattle.cpu.specs.Sound.{view_of}
-use Rattle.cpu.specs.Stages.{Means, StageSteps}
+use Rattle.cpu.specs.Stages.{StageSteps}
 use Rattle.cpu.specs.Turns.{phase_at}
 use Rattle.cpu.proofs.Rests.{going-ends}
 use Rattle.cpu.proofs.Seen.{first-by-le, first-by-few, part-by-le}
@@ -22,8 +21,8 @@ returns-then-not-is_going-clause-turned g c =
     let own : operation_at c.args.program.now v.state ≡ Some u.op = rw (← c.operations-ops.ensures) c.begun-under.ensures.op in
     let v1 : Vp = view_of (record { vp = i.vp; limits = i.limits; zero_length = i.zero_length; one_length = i.one_length; started = i.started; bank = i.bank; levels = i.levels; under = Some u; log = c.stand.new.self }) in
     rw (← c.self.view_is, own) (local-by v v1 c.settle.new.self u.op ends.0 (g.P.Port.seat c.args.port.now) c.settle.result ends.1 (rw c.stand.ensures refl)
-        (λ grant. again-kept i.limits.pages (state_of i.bank i.levels) i.under u i.log.seen.0 i.log.part i.log.first ends.0 grant c.self.invariant.means c.begun-under.ensures.kept ends.1)
-        c.settle.ensures.new c.settle.ensures.turn)
+    (λ grant. again-kept i.limits.pages (state_of i.bank i.levels) i.under u i.log.seen.0 i.log.part i.log.first ends.0 grant c.self.invariant.means c.begun-under.ensures.kept ends.1)
+    c.settle.ensures.new c.settle.ensures.turn)
 
 pub invariant_of-self-2 : goal.invariant_of-self-2
 invariant_of-self-2 g c =

@@ -1,4 +1,4 @@
-use Rattle.std.proofs.Common.{rules, arith, ◌≡◌, ◌≢◌, ◌≤◌, ◌+◌, ◌<◌, ◌∷◌, [], None, Some, false, refl, sym, ap, ◌∙◌, length, length-append}
+use Rattle.std.proofs.Common.{arith, ◌≡◌, ◌≢◌, ◌∷◌, [], None, Some, false, refl, sym, ◌∙◌, length-append}
 use Rattle.vsm_core.specs.declared.mark.What.TheVariants.{Again}
 use Rattle.vsm_core.specs.Attempt.{Outcome, attempt}
 use Rattle.vsm_core.specs.Tree.{Ends}

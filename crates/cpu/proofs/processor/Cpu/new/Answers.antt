@@ -1,4 +1,4 @@
-use Rattle.std.proofs.Common.{◌≡◌, ◌≤◌, None, sym, ◌∙◌, rules, arith, refl}
+use Rattle.std.proofs.Common.{◌≡◌, None, sym, ◌∙◌, rules, arith, refl}
 use Rattle.vsm_core.specs.Processor.{ran_out}
 use Rattle.cpu.proofs.Openings.{rip-opening, ran_out-none, spins-open}
 use Rattle.cpu.proofs.processor.Cpu.new.Goals as goal

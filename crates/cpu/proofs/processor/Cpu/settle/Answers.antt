@@ -1,4 +1,4 @@
-use Rattle.std.proofs.Common.{rules, arith, ◌≡◌, refl, ap, sym, ◌∙◌}
+use Rattle.std.proofs.Common.{refl, ap, sym, ◌∙◌}
 use Rattle.vsm_core.specs.Processor.{answers_of, IsShort}
 use Rattle.vtl_state.specs.States.{state_of}
 use Rattle.cpu.proofs.Lists.{none-new}

@@ -1,4 +1,4 @@
-use Rattle.std.proofs.Common.{rules, arith, ◌≡◌, ◌≤◌, ◌<◌, ◌+◌, Some, None, true, false, refl, sym, ap, ◌∙◌, length, length-append, ◌∷◌, []}
+use Rattle.std.proofs.Common.{arith, ap, length-append, ◌∷◌, []}
 use Rattle.vsm_core.specs.declared.event.Event.TheVariants.{Take}
 use Rattle.vsm_core.specs.declared.event.PendingWord.TheVariants.{Start}
 use Rattle.vsm_core.specs.Processor.{IsShort}
