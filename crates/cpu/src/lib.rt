@@ -11,3 +11,8 @@ mod stage;
 
 pub use cpu_turn::CpuTurn;
 pub use processor::Cpu;
+
+#[cfg(test)]
+mod fed;
+#[cfg(test)]
+mod tests;
