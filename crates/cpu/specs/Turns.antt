@@ -1,5 +1,5 @@
 -- What one turn of a processor is.
-use Rattle.std.specs.Prelude.{◌≡◌, ℕ, ◌==◌, if◌then◌else◌, Option, Some, None, IfSome, List, drop, reverse}
+use Rattle.std.specs.Prelude.{◌≡◌, ℕ, ◌==◌, if◌then◌else◌, Option, Some, None, IfSome, List, drop, length, reverse}
 use Rattle.vsm_core.specs.declared.event.Event.{Event}
 use Rattle.vsm_core.specs.declared.event.Phase.{Phase}
 use Rattle.vsm_core.specs.declared.event.PendingWord.TheVariants.{Start}
@@ -8,8 +8,9 @@ use Rattle.vsm_core.specs.declared.mark.GuestFault.TheVariants.{Undefined}
 use Rattle.vsm_core.specs.declared.mark.What.{What}
 use Rattle.vsm_core.specs.declared.mark.What.TheVariants as whats
 use Rattle.vsm_core.specs.declared.operation.Op.{Op}
+use Rattle.vsm_core.specs.declared.operation.Program.{Program}
 use Rattle.vsm_core.specs.Attempt.{Outcome, faulted}
-use Rattle.vsm_core.specs.Processor.{Vp, saw, settled}
+use Rattle.vsm_core.specs.Processor.{Vp, operation_at, saw, settled}
 use Rattle.vsm_core.specs.Seat.{Seat, Makes}
 use Rattle.vsm_core.specs.Steps.{made, phase_of}
 use Rattle.vsm_core.specs.Tree.{Tree, Ends, Asks, Wants, Taking}
@@ -60,3 +61,9 @@ Wakes old before new after turn = (x : ℕ) × Makes before (Taking Start) x aft
 -- an operation that is kept is the one that was, and the state is as it was
 abbrev pub Keeps : Vp → Vp → Type 0
 Keeps old new = IfSome new.op (λ op. (old.op ≡ Some op) × (new.state ≡ old.state))
+
+-- the programs that a processor was made with. Where it keeps on with an operation, they have it where it stands
+pub record Fits (program : Program) (v : Vp) : Type 0 where
+  pub zero : length program.zero ≡ v.zero_length
+  pub one : length program.one ≡ v.one_length
+  pub kept : IfSome v.op (λ op. operation_at program v.state ≡ Some op)

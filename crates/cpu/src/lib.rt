@@ -15,3 +15,8 @@ mod touching;
 
 pub use cpu_turn::CpuTurn;
 pub use processor::Cpu;
+
+#[cfg(test)]
+mod fed;
+#[cfg(test)]
+mod tests;

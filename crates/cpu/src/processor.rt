@@ -373,3 +373,17 @@ impl Cpu {
         (marks.into_items(), seen.into_items())
     }
 }
+
+#[cfg(test)]
+impl Cpu {
+    /// The processor with so many reads of spins behind it that found another value.
+    #[tactic(auto, unfolding(vsm_core::specs::Processor::spin_limit))]
+    pub fn after_spins(self, spins: u32) -> Cpu
+        requires { spins < 20000000 }
+        ensures { result ≡ record self { spins = spins } }
+    {
+        let mut cpu = self;
+        cpu.log.spins = spins;
+        cpu
+    }
+}
