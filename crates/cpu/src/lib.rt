@@ -19,4 +19,6 @@ pub use processor::Cpu;
 #[cfg(test)]
 mod fed;
 #[cfg(test)]
+mod switch_tests;
+#[cfg(test)]
 mod tests;

@@ -5,6 +5,7 @@ ghost use Rattle.vsm_core.specs.Processor.{opening, standing, operation_at, oper
 ghost use Rattle.vsm_core.specs.Attempt.{Outcome, attempt, most_steps_of};
 ghost use Rattle.vsm_core.specs.Tree.{Ends};
 ghost use Rattle.cpu.specs.Sound.{length_at};
+ghost use Rattle.vtl_state.specs.States.{state_of};
 ghost use Rattle.cpu.specs.Results.{outcome, result_of};
 ghost use Rattle.cpu.specs.Turns.{Keeps, VpServes, TurnsBy, Wakes, answer_at, after_mark, phase_at};
 
@@ -385,5 +386,22 @@ impl Cpu {
         let mut cpu = self;
         cpu.log.spins = spins;
         cpu
+    }
+
+    /// The processor in this state, if no attempt is under way and the active level then has an operation where it
+    /// stands.
+    pub fn with_state(self, bank: Bank, levels: Levels) -> Option<Cpu>
+        ensures state { IfSome result (λ cpu. cpu ≡ record self { state = state_of bank levels }) }
+        ensures idle { IfSome result (λ cpu. cpu.op ≡ None) }
+    {
+        let rip = word_of(&bank, &levels, Name::Rip);
+        let length = length_of(self.zero_length, self.one_length, &levels);
+        if self.under.is_some() || rip >= length as u64 {
+            return None;
+        }
+        let mut cpu = self;
+        cpu.bank = bank;
+        cpu.levels = levels;
+        Some(cpu)
     }
 }

@@ -1,15 +1,17 @@
-use super::*;
 ghost use Rattle.std.specs.Prelude.{◌≡◌, get_or, IfOk};
 ghost use Rattle.cpu.specs.Turns.{VpServes, Fits, phase_at};
 
+use super::*;
 use crate::fed::Fed;
 use fabric::{Layout, PlainFabric, Port, Steward};
 use std::alloc::Global;
 use std::test::Fail;
 use vsm_base::{Access, Gva, Items, Limits, Mask, Name, Page, VpIndex, Vtl};
-use vsm_core::{Denial, Ending, Grant, GuestFault, Mark, Op, Operand, Phase, Posted, Program, What};
+use vsm_core::{
+    Denial, Ending, Grant, GuestFault, Mark, Op, Operand, Phase, Posted, Program, What,
+};
 
-const LIMITS: Limits = Limits {
+pub const LIMITS: Limits = Limits {
     vps: 1,
     pages: 2,
     budget: 10,
@@ -22,7 +24,7 @@ fn program_of(alloc: Global, ops: &[Op]) -> Result<Program, Fail> {
     })
 }
 
-fn processor(alloc: Global, started: bool, program: &Program) -> Result<Cpu, Fail>
+pub fn processor(alloc: Global, started: bool, program: &Program) -> Result<Cpu, Fail>
     ensures fits { IfOk result (λ cpu. Fits program.now cpu) }
     ensures number { IfOk result (λ cpu. cpu.number ≡ 0) }
     ensures limits { IfOk result (λ cpu. cpu.limits ≡ LIMITS) }
@@ -31,7 +33,7 @@ fn processor(alloc: Global, started: bool, program: &Program) -> Result<Cpu, Fai
     Ok(Cpu::new(alloc, VpIndex(0), &LIMITS, started, program)?)
 }
 
-fn plain(alloc: Global, mask: Mask, word: u64) -> Result<PlainFabric, Fail>
+pub fn plain(alloc: Global, mask: Mask, word: u64) -> Result<PlainFabric, Fail>
     ensures limits { IfOk result (λ f. f.limits ≡ LIMITS) }
     ensures idle { IfOk result (λ f. get_or f.fabric.phases 0 Phase.Idle ≡ Phase.Idle) }
 {
@@ -41,7 +43,7 @@ fn plain(alloc: Global, mask: Mask, word: u64) -> Result<PlainFabric, Fail>
 }
 
 /// A memory word of page 0.
-fn word(fabric: &PlainFabric, index: usize) -> Option<u64> {
+pub fn word(fabric: &PlainFabric, index: usize) -> Option<u64> {
     let memory = Layout::of(&LIMITS).memory as usize;
     fabric.words().get(memory.saturating_add(index)).copied()
 }
@@ -76,7 +78,7 @@ fn seen_after_turn<P: Port>(cpu: &mut Cpu, port: &mut P, program: &Program) -> u
 }
 
 /// Makes turns until one doesn't answer that the attempt goes on, at most so many.
-fn attempt<P: Port>(cpu: &mut Cpu, port: &mut P, program: &Program) -> Option<CpuTurn>
+pub fn attempt<P: Port>(cpu: &mut Cpu, port: &mut P, program: &Program) -> Option<CpuTurn>
     requires fits { Fits program.now cpu.old }
     requires serves { VpServes cpu.old (P.seat port.old) }
     ensures fits { Fits program.now cpu.new }
@@ -95,7 +97,7 @@ fn attempt<P: Port>(cpu: &mut Cpu, port: &mut P, program: &Program) -> Option<Cp
 }
 
 /// Makes so many attempts.
-fn attempts<P: Port>(cpu: &mut Cpu, port: &mut P, program: &Program, count: usize)
+pub fn attempts<P: Port>(cpu: &mut Cpu, port: &mut P, program: &Program, count: usize)
     requires fits { Fits program.now cpu.old }
     requires serves { VpServes cpu.old (P.seat port.old) }
     ensures fits { Fits program.now cpu.new }
@@ -202,9 +204,21 @@ fn a_fault_and_the_budget_end_it(rt: HostRuntime) -> Result<(), Fail> {
     let table = [
         (Op::Jump(0), 10, Ending::Budget),
         (Op::Jump(1), 1, Ending::Done),
-        (Op::Load(Name::Rax, Gva(4)), 1, Ending::Fault(GuestFault::Align)),
-        (Op::Load(Name::Rax, Gva(0x2000)), 1, Ending::Fault(GuestFault::Unmapped)),
-        (Op::Set(Name::Cr3, 1 << 64), 1, Ending::Fault(GuestFault::Gp)),
+        (
+            Op::Load(Name::Rax, Gva(4)),
+            1,
+            Ending::Fault(GuestFault::Align),
+        ),
+        (
+            Op::Load(Name::Rax, Gva(0x2000)),
+            1,
+            Ending::Fault(GuestFault::Unmapped),
+        ),
+        (
+            Op::Set(Name::Cr3, 1 << 64),
+            1,
+            Ending::Fault(GuestFault::Gp),
+        ),
         (Op::Poll, 1, Ending::Fault(GuestFault::Undefined)),
     ];
     for (op, marks, ending) in table {
@@ -225,7 +239,10 @@ fn a_spin_leaves_its_last_attempt_alone(rt: HostRuntime) -> Result<(), Fail> {
     let program = program_of(alloc, &[Op::Spin(Gva(0), 7), Op::Get(Name::Rax)])?;
     let mut cpu = processor(alloc, true, &program)?;
     let mut port = fed(alloc, &[0, 15, 5, 0, 15, 6, 0, 15, 7])?;
-    assert_eq!(rt; attempt(&mut cpu, &mut port, &program), Some(CpuTurn::Again));
+    assert_eq!(rt;
+        attempt(&mut cpu, &mut port, &program),
+        Some(CpuTurn::Again)
+    );
     let first = Mark {
         level: Vtl::Zero,
         rip: 0,
@@ -241,10 +258,19 @@ fn a_spin_leaves_its_last_attempt_alone(rt: HostRuntime) -> Result<(), Fail> {
     assert!(rt; cpu.marks().is_empty());
     assert_eq!(rt; seen_after_turn(&mut cpu, &mut port, &program), 2);
     assert_eq!(rt; seen_after_turn(&mut cpu, &mut port, &program), 3);
-    assert_eq!(rt; attempt(&mut cpu, &mut port, &program), Some(CpuTurn::Again));
+    assert_eq!(rt;
+        attempt(&mut cpu, &mut port, &program),
+        Some(CpuTurn::Again)
+    );
     assert_eq!(rt; cpu.seen().len(), 5);
-    assert_eq!(rt; attempt(&mut cpu, &mut port, &program), Some(CpuTurn::Attempt));
-    assert_eq!(rt; whats(alloc, cpu.marks())?.as_slice(), [What::Granted(grant(7))].as_slice());
+    assert_eq!(rt;
+        attempt(&mut cpu, &mut port, &program),
+        Some(CpuTurn::Attempt)
+    );
+    assert_eq!(rt;
+        whats(alloc, cpu.marks())?.as_slice(),
+        [What::Granted(grant(7))].as_slice()
+    );
     assert_eq!(rt; cpu.seen().len(), 5);
     assert_eq!(rt; cpu.standing(), 1);
     Ok(())
@@ -257,8 +283,14 @@ fn a_spin_in_vain_ends_it(rt: HostRuntime) -> Result<(), Fail> {
     let cpu = processor(alloc, true, &program)?;
     let mut cpu = cpu.after_spins(19_999_998);
     let mut port = fed(alloc, &[0, 15, 5, 0, 15, 5, 0, 15, 5])?;
-    assert_eq!(rt; attempt(&mut cpu, &mut port, &program), Some(CpuTurn::Attempt));
-    assert_eq!(rt; attempt(&mut cpu, &mut port, &program), Some(CpuTurn::Again));
+    assert_eq!(rt;
+        attempt(&mut cpu, &mut port, &program),
+        Some(CpuTurn::Attempt)
+    );
+    assert_eq!(rt;
+        attempt(&mut cpu, &mut port, &program),
+        Some(CpuTurn::Again)
+    );
     let spun = CpuTurn::Ended(Ending::Spun);
     assert_eq!(rt; attempt(&mut cpu, &mut port, &program), Some(spun));
     assert_eq!(rt; cpu.ended(), Some(Ending::Spun));
@@ -304,7 +336,10 @@ fn a_processor_waits_for_its_start(rt: HostRuntime) -> Result<(), Fail> {
     assert_eq!(rt; attempt(&mut cpu, &mut port, &program), Some(CpuTurn::Idle));
     assert!(rt; cpu.seen().is_empty());
     let undefined = Ending::Fault(GuestFault::Undefined);
-    assert_eq!(rt; attempt(&mut cpu, &mut port, &program), Some(CpuTurn::Ended(undefined)));
+    assert_eq!(rt;
+        attempt(&mut cpu, &mut port, &program),
+        Some(CpuTurn::Ended(undefined))
+    );
     assert_eq!(rt; cpu.marks().len(), 1);
     assert_eq!(rt; cpu.seen().len(), 1);
     Ok(())
@@ -319,7 +354,10 @@ fn a_posted_start_is_taken(rt: HostRuntime) -> Result<(), Fail> {
     fabric.steward().post(VpIndex(0));
     let mut port = fabric.port(VpIndex(0));
     let undefined = Ending::Fault(GuestFault::Undefined);
-    assert_eq!(rt; attempt(&mut cpu, &mut port, &program), Some(CpuTurn::Ended(undefined)));
+    assert_eq!(rt;
+        attempt(&mut cpu, &mut port, &program),
+        Some(CpuTurn::Ended(undefined))
+    );
     let start = Layout::of(&LIMITS).start as usize;
     assert_eq!(rt; fabric.words().get(start).copied(), Some(0));
     Ok(())
