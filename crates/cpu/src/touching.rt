@@ -80,14 +80,15 @@ fn read_rcx<P: Port>(page: Page, rax: u64, port: &mut P) -> StageStep
     ensures { StageSteps (Stage.Touch Gate.Inside (Task.Rcx page rax)) (P.seat port.old) (P.seat port.new) result }
 {
     let rcx = port.read(page, RCX);
-    let decided = Decided::Returned(Some((rax, rcx)));
     StageStep {
         event: Event::Read {
             page,
             index: RCX,
             value: rcx,
         },
-        stage: Stage::Leave { decided },
+        stage: Stage::Leave {
+            decided: Decided::Returned(Some((rax, rcx))),
+        },
     }
 }
 
