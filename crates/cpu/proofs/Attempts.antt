@@ -9,7 +9,7 @@ use Rattle.vsm_core.specs.State.{State}
 use Rattle.vsm_core.specs.Tree.{Tree, Ends}
 use Rattle.vsm_core.proofs.Bounds.{attempt-counts}
 use Rattle.cpu.specs.declared.stage.Stage.{Stage}
-use Rattle.cpu.specs.declared.stage.Stage.TheVariants.{Reach, Leave, End}
+use Rattle.cpu.specs.declared.stage.Stage.TheVariants.{Reach, Touch, Leave, End}
 use Rattle.cpu.specs.declared.stage.Under.{Under}
 use Rattle.cpu.specs.Stages.{StageRest, StageIs, StageAt, IsTidy, IsUnderWay}
 use Rattle.cpu.proofs.Lists.{drop-length}
@@ -20,6 +20,7 @@ none-seen seen first e = rw e (drop-length seen)
 -- a new attempt is tidy
 tidy-idle : (part first : ℕ) (stage : Stage) (phase : Phase) → part ≡ first → phase ≡ Idle → IsTidy part first stage phase
 tidy-idle part first (Reach path) phase e idle = rw idle tt
+tidy-idle part first (Touch gate task) phase e idle = rw idle tt
 tidy-idle part first (Leave decided) phase e idle = e
 tidy-idle part first (End decided) phase e idle = e
 
@@ -41,5 +42,6 @@ begun-means count state u seen part first e same is rest at = begun-under count 
 -- an attempt that begins with a step is tidy
 pub tidy-begun : (part first : ℕ) (state : State) (op : Op) (stage : Stage) (tree : Tree Outcome) → StageRest state op stage tree → StageAt stage Idle → ((o : Outcome) → tree ≢ Ends o) → IsTidy part first stage Idle
 tidy-begun part first state op (Reach path) tree rest at asks = tt
+tidy-begun part first state op (Touch gate task) tree rest at asks = tt
 tidy-begun part first state op (Leave decided) tree rest at asks = absurd at
 tidy-begun part first state op (End decided) tree rest at asks = absurd (asks _ rest.1)

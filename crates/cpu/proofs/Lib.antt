@@ -1,5 +1,4 @@
 pub mod Attempts
-pub mod Banks
 pub mod Seen
 pub mod Spins
 pub mod Lists
@@ -8,3 +7,4 @@ pub mod Ops
 pub mod Rests
 pub mod Steps
 pub mod Turning
+pub mod Switches

@@ -1,14 +1,14 @@
 -- A processor before its first turn.
-use Rattle.std.proofs.Common.{◌≡◌, ◌<◌, ◌≤◌, ℕ, zero, suc, None, arith, refl, lit<}
+use Rattle.std.proofs.Common.{◌≡◌, ◌<◌, ◌≤◌, ℕ, zero, suc, false, None, arith, refl, lit<}
 use Rattle.vsm_base.specs.Names.{all_names}
 use Rattle.vsm_base.specs.declared.places.Vtl.TheVariants.{Zero}
 use Rattle.vsm_core.specs.Processor.{ran_out, spin_limit}
 use Rattle.vsm_core.specs.Registers.{opening, opening_private, private_names, private_place, opening_value}
 use Rattle.vsm_core.specs.State.{rip_of}
-use Rattle.cpu.specs.Results.{state_of}
+use Rattle.vtl_state.specs.States.{state_of}
 
 -- a program begins at its first operation
-pub rip-opening : rip_of (state_of opening Zero) ≡ 0
+pub rip-opening : rip_of (state_of opening (record { active = Zero; enabled = false })) ≡ 0
 unfolding opening_private private_names private_place opening_value all_names
 rip-opening = refl
 

@@ -5,18 +5,19 @@ use Rattle.vsm_base.specs.declared.places.Access.TheVariants.{Read, Write, Execu
 use Rattle.vsm_core.specs.declared.mark.Grant.{Grant}
 use Rattle.vsm_base.specs.declared.name.Name.{Name}
 use Rattle.vsm_core.specs.declared.mark.GuestFault.{GuestFault}
-use Rattle.vsm_core.specs.declared.mark.GuestFault.TheVariants.{Gp}
+use Rattle.vsm_core.specs.declared.mark.GuestFault.TheVariants.{Gp, Undefined}
 use Rattle.vsm_core.specs.declared.mark.What.{What}
 use Rattle.vsm_core.specs.declared.mark.What.TheVariants as whats
 use Rattle.vsm_core.specs.declared.mark.What.TheVariants.{Again}
 use Rattle.vsm_core.specs.declared.operation.Op.{Op}
-use Rattle.vsm_core.specs.declared.operation.Op.TheVariants.{Set, Get, Load, Store, Exec, Spin, Jump, JumpNe}
+use Rattle.vsm_core.specs.declared.operation.Op.TheVariants.{Set, Get, Load, Store, Exec, Spin, Jump, JumpNe, VtlCall, VtlReturn}
 use Rattle.vsm_core.specs.Access.{Goal, Decision, data_step, access}
-use Rattle.vsm_core.specs.Attempt.{Outcome, attempt, begun, faulted, goal_of, loaded, passed, spun, set_outcome, get_outcome, empties}
+use Rattle.vsm_core.specs.Attempt.{Outcome, attempt, begun, faulted, goal_of, loaded, passed, spun, set_outcome, get_outcome, empties, enters, returns}
 use Rattle.vsm_core.specs.Fills.{Fill}
 use Rattle.vsm_core.specs.Processor.{Vp, came_to, marked, settled}
 use Rattle.vsm_core.specs.Registers.{is_legal}
 use Rattle.vsm_core.specs.State.{State, operand, gone_on, may_name, get, put}
+use Rattle.vsm_core.specs.Switch.{may_call, may_return, called, returned, assist_page, restored_from, by_call}
 use Rattle.vsm_core.specs.Tree.{Tree, Ends, Asks, WordStep, then_, follow}
 use Rattle.access_path.specs.declared.aim.Aim.{Aim}
 use Rattle.access_path.specs.declared.place.Place.{Place}
@@ -25,8 +26,13 @@ use Rattle.access_path.specs.Rest.{Rest}
 use Rattle.cpu.specs.declared.operations.Decided.{Decided}
 use Rattle.cpu.specs.declared.operations.Decided.TheVariants as decisions
 use Rattle.cpu.specs.declared.stage.Stage.{Stage}
-use Rattle.cpu.specs.declared.stage.Stage.TheVariants.{Reach, Leave, End}
-use Rattle.cpu.specs.Results.{EndsAs, again_of, granted_of, local_outcome, outcome, result_of}
+use Rattle.cpu.specs.declared.stage.Stage.TheVariants.{Reach, Touch, Leave, End}
+use Rattle.cpu.specs.declared.task.Gate.{Gate}
+use Rattle.cpu.specs.declared.task.Gate.TheVariants.{Outside, Entered, Inside}
+use Rattle.cpu.specs.declared.task.Task.{Task}
+use Rattle.cpu.specs.declared.task.Task.TheVariants.{Tell, Rax, Rcx}
+use Rattle.cpu.specs.Results.{EndsAs, again_of, granted_of, local_outcome, outcome, result_of, switched}
+use Rattle.cpu.specs.Tasks.{gate_rest, task_rest}
 use Rattle.cpu.specs.Stages.{StageRest, is_going}
 
 -- a step is next
@@ -50,9 +56,20 @@ Rest-asks aim Over t h = absurd h
 then_-asks : {A B : Type 0} (t : Tree A) (f : A → Tree B) → IsAsking t → IsAsking (then_ t f)
 then_-asks t f a = rw a.2 (_, _, refl)
 
+task-asks : (state : State) (op : Op) (task : Task) → IsAsking (task_rest state op task)
+task-asks state op (Tell page index word decided) = (_, _, refl)
+task-asks state op (Rax page) = (_, _, refl)
+task-asks state op (Rcx page rax) = (_, _, refl)
+
+gate-asks : (gate : Gate) (inside : Tree Outcome) → IsAsking inside → IsAsking (gate_rest gate inside)
+gate-asks Outside inside a = (_, _, refl)
+gate-asks Entered inside a = (_, _, refl)
+gate-asks Inside inside a = a
+
 -- a step is next at a stage from which one is made
 pub stage-asks : (state : State) (op : Op) (stage : Stage) (tree : Tree Outcome) → StageRest state op stage tree → ((decided : Decided) → stage ≢ End decided) → IsAsking tree
 stage-asks state op (Reach path) tree r not_end = rw r.2 (then_-asks r.0 _ (Rest-asks path.aim path.place r.0 r.1))
+stage-asks state op (Touch gate task) tree r not_end = rw r (gate-asks gate (task_rest state op task) (task-asks state op task))
 stage-asks state op (Leave decided) tree r not_end = (_, _, r.1)
 stage-asks state op (End decided) tree r not_end = absurd (not_end decided refl)
 
@@ -76,6 +93,18 @@ set-no-again state name value =
 get-no-again : (state : State) (name : Name) → NoAgain (Ends (get_outcome state name))
 get-no-again state name = NoAgain-cond (may_name state name) (record { what = whats.Value (get state name); state = gone_on state; does = [] }) (faulted state Gp) (λ grant e. cc) (λ grant e. cc)
 
+NoAgain-tree : (b : Bool) (t u : Tree Outcome) → NoAgain t → NoAgain u → NoAgain (cond b t u)
+NoAgain-tree true t u h g = h
+NoAgain-tree false t u h g = g
+
+enters-no-again : (told : Option ℕ) (state : State) → NoAgain (enters told by_call state)
+enters-no-again None state = λ grant e. cc
+enters-no-again (Some page) state = tt
+
+returns-no-again : (from : Option ℕ) (state : State) → NoAgain (returns from state)
+returns-no-again None state = λ grant e. cc
+returns-no-again (Some page) state = tt
+
 pub attempt-no-again : (pages : ℕ) (state : State) (op : Op) → NoAgain (attempt pages state op)
 attempt-no-again pages state (Set name value) = set-no-again state name value
 attempt-no-again pages state (Get name) = get-no-again state name
@@ -85,6 +114,8 @@ attempt-no-again pages state (Exec gva) = begun-no-again state (passed state) (g
 attempt-no-again pages state (Spin gva value) = begun-no-again state (spun state value) (goal_of pages state Read true gva.0 0) _
 attempt-no-again pages state (Jump rip) = λ grant e. cc
 attempt-no-again pages state (JumpNe name value rip) = λ grant e. cc
+attempt-no-again pages state VtlCall = NoAgain-tree (may_call state) (enters (assist_page pages state) by_call (called state)) (Ends (faulted state Undefined)) (enters-no-again (assist_page pages state) (called state)) (λ grant e. cc)
+attempt-no-again pages state VtlReturn = NoAgain-tree (may_return state) (returns (restored_from pages state) state) (Ends (faulted state Undefined)) (returns-no-again (restored_from pages state) state) (λ grant e. cc)
 attempt-no-again pages state _ = λ grant e. cc
 
 follow-Ends : {A : Type 0} (a : A) (xs : List ℕ) → follow (Ends a) xs ≡ Ends a
@@ -137,12 +168,18 @@ granted-stays : (state : State) (op : Op) (found grant : Grant) → again_of op 
 granted-stays state (Spin gva value) found grant e = spin-stays (found.value == value) (gone_on state) state found grant e
 granted-stays state _ found grant e = λ h. cc
 
+switched-stays : (lawful : Bool) (before after : State) (grant : Grant) → (switched lawful before after).0 ≢ Again grant
+switched-stays true before after grant = λ h. cc
+switched-stays false before after grant = λ h. cc
+
 -- anything else
 pub result-stays : (state : State) (op : Op) (decided : Decided) (grant : Grant) → again_of op decided ≡ None → (result_of state op decided).0 ≢ Again grant
 result-stays state op decisions.Local grant e = local-stays state op grant
 result-stays state op (decisions.Granted found) grant e = granted-stays state op found grant e
 result-stays state op (decisions.Denied page mask generation access) grant e = λ h. cc
 result-stays state op (decisions.Fault fault) grant e = λ h. cc
+result-stays state op decisions.Called grant e = switched-stays (may_call state) state (called state) grant
+result-stays state op (decisions.Returned pair) grant e = switched-stays (may_return state) state (returned state pair) grant
 
 came-marked : (what : What) (v : Vp) (o : Outcome) → ((grant : Grant) → what ≢ Again grant) → came_to what v o ≡ marked v o
 came-marked (Again grant) v o h = absurd (h grant refl)
@@ -155,5 +192,6 @@ settled-marked v tree state op decided ends none =
 -- a stage from which no step is made
 pub going-ends : (state : State) (op : Op) (stage : Stage) (tree : Tree Outcome) → is_going stage ≡ false → StageRest state op stage tree → (o : Outcome) × (tree ≡ Ends o)
 going-ends state op (Reach path) tree going rest = cc
+going-ends state op (Touch gate task) tree going rest = cc
 going-ends state op (Leave decided) tree going rest = cc
 going-ends state op (End decided) tree going rest = (_, rest.1)

@@ -7,7 +7,7 @@ use Rattle.vsm_core.specs.Steps.{made, phase_after}
 use Rattle.vsm_core.specs.Tree.{Tree, Ends, Asks, Wants, WordStep, Entering, Checking, Masking, Reading, Writing, Leaving, Posting, Taking, then_}
 use Rattle.vsm_core.specs.Turns.{Turned}
 use Rattle.cpu.specs.declared.stage.Stage.{Stage}
-use Rattle.cpu.specs.declared.stage.Stage.TheVariants.{Reach, Leave, End}
+use Rattle.cpu.specs.declared.stage.Stage.TheVariants.{Reach, Touch, Leave, End}
 use Rattle.cpu.specs.Logs.{first_by}
 use Rattle.cpu.specs.Stages.{StageAt, Goes, IsTidy, TidyIn, is_going}
 
@@ -31,6 +31,7 @@ tidy-after part first (Taking word) x phase h = h
 -- it is so at a stage that is inside or reaches on
 tidy-stage : (part first : ℕ) (stage : Stage) (phase : Phase) → is_going stage ≡ true → StageAt stage phase → TidyIn part first phase → IsTidy part first stage phase
 tidy-stage part first (Reach path) phase going at h = h
+tidy-stage part first (Touch gate task) phase going at h = h
 tidy-stage part first (Leave decided) Idle going at h = absurd at
 tidy-stage part first (Leave decided) Entered going at h = absurd at
 tidy-stage part first (Leave decided) (In generation) going at h = h
@@ -40,6 +41,9 @@ tidy-same : (part first : ℕ) (stage : Stage) (phase : Phase) → part ≡ firs
 tidy-same part first (Reach path) Idle e = tt
 tidy-same part first (Reach path) Entered e = tt
 tidy-same part first (Reach path) (In generation) e = e
+tidy-same part first (Touch gate task) Idle e = tt
+tidy-same part first (Touch gate task) Entered e = tt
+tidy-same part first (Touch gate task) (In generation) e = e
 tidy-same part first (Leave decided) phase e = e
 tidy-same part first (End decided) phase e = e
 
@@ -50,5 +54,6 @@ same-after part first _ x e = e
 -- what was tidy is tidy after the step
 pub tidy-step : (part first : ℕ) (s : WordStep) (x : ℕ) (stage next : Stage) (before now : Phase) → now ≡ phase_after before s x → Goes stage next → StageAt next now → IsTidy part first stage before → IsTidy part (first_by part first (made s x)) next now
 tidy-step part first s x (Reach path) next before now e going at h = tidy-stage part _ next now going at (rw e (tidy-after part first s x before h))
+tidy-step part first s x (Touch gate task) next before now e going at h = tidy-stage part _ next now going at (rw e (tidy-after part first s x before h))
 tidy-step part first s x (Leave decided) next before now e going at h = tidy-same part _ next now (same-after part first s x h)
 tidy-step part first s x (End decided) next before now e going at h = tidy-same part _ next now (same-after part first s x h)

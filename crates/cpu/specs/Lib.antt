@@ -2,4 +2,5 @@ pub mod Logs
 pub mod Results
 pub mod Sound
 pub mod Stages
+pub mod Tasks
 pub mod Turns

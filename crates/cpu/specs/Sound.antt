@@ -4,9 +4,9 @@ use Rattle.vsm_base.specs.declared.places.Vtl.{Vtl}
 use Rattle.vsm_base.specs.declared.places.Vtl.TheVariants.{Zero, One}
 use Rattle.vsm_core.specs.Processor.{Vp, spin_limit}
 use Rattle.vsm_core.specs.State.{rip_of}
+use Rattle.vtl_state.specs.States.{state_of}
 use Rattle.cpu.specs.declared.processor.Cpu.TheInside.{Inside}
 use Rattle.cpu.specs.Logs.{standing_of}
-use Rattle.cpu.specs.Results.{state_of}
 use Rattle.cpu.specs.Stages.{Means, op_of}
 
 abbrev pub view_of : Inside → Vp
@@ -16,7 +16,7 @@ view_of c = record {
   zero_length = c.zero_length;
   one_length = c.one_length;
   started = c.started;
-  state = state_of c.bank c.active;
+  state = state_of c.bank c.levels;
   op = op_of c.under;
   marks = c.log.marks.0;
   seen = c.log.seen.0;
@@ -45,8 +45,8 @@ pub record IsSound (c : Inside) : Type 0 where
   pub first_le : c.log.first ≤ length c.log.seen.0
   pub seen_few : length c.log.seen.0 ≤ c.log.first + 13
   pub room : c.log.ended ≡ None → length (standing_of c.log.again c.log.marks.0) < c.limits.budget
-  pub running : c.started ≡ true → c.log.ended ≡ None → rip_of (state_of c.bank c.active) < length_at c.zero_length c.one_length c.active
+  pub running : c.started ≡ true → c.log.ended ≡ None → rip_of (state_of c.bank c.levels) < length_at c.zero_length c.one_length c.levels.active
   pub spins : c.log.ended ≡ None → c.log.spins < spin_limit
   pub waits : c.started ≡ false → c.under ≡ None
   pub fresh : c.started ≡ false → c.log.again ≡ false
-  pub means : Means c.limits.pages (state_of c.bank c.active) c.under c.log.seen.0 c.log.part c.log.first
+  pub means : Means c.limits.pages (state_of c.bank c.levels) c.under c.log.seen.0 c.log.part c.log.first

@@ -16,10 +16,11 @@ use Rattle.vsm_core.specs.Turns.{Turned}
 use Rattle.access_path.specs.declared.place.Place.TheVariants.{Over}
 use Rattle.access_path.specs.Rest.{Rest, IsAt, Serves}
 use Rattle.cpu.specs.declared.stage.Stage.{Stage}
-use Rattle.cpu.specs.declared.stage.Stage.TheVariants.{Reach, Leave, End}
+use Rattle.cpu.specs.declared.stage.Stage.TheVariants.{Reach, Touch, Leave, End}
 use Rattle.cpu.specs.declared.stage.Under.{Under}
 use Rattle.cpu.specs.declared.stage.StageStep.{StageStep}
 use Rattle.cpu.specs.Results.{EndsAs, granted_of, result_of}
+use Rattle.cpu.specs.Tasks.{GateAt, TaskIs, TaskServes, gate_rest, task_rest}
 use Rattle.cpu.specs.Turns.{phase_at}
 
 -- the leave is left, and then the end of an attempt that came to this
@@ -29,18 +30,21 @@ LeavesAs tree result = (does : List Cached) × (tree ≡ Asks Leaving (λ _. End
 -- what is left of an attempt of this operation at a stage
 abbrev pub StageRest : State → Op → Stage → Tree Outcome → Type 0
 StageRest state op (Reach path) tree = (t : Tree Decision) × Rest path.aim path.place t × (tree ≡ then_ t (leaves state (granted_of state op)))
+StageRest state op (Touch gate task) tree = tree ≡ gate_rest gate (task_rest state op task)
 StageRest state op (Leave decided) tree = LeavesAs tree (result_of state op decided)
 StageRest state op (End decided) tree = EndsAs tree (result_of state op decided)
 
 -- a stage of an attempt on so many pages
 abbrev pub StageIs : ℕ → Stage → Type 0
 StageIs count (Reach path) = (path.aim.pages ≡ count) × (path.place ≢ Over)
+StageIs count (Touch gate task) = TaskIs count task
 StageIs count (Leave decided) = Unit {0}
 StageIs count (End decided) = Unit {0}
 
 -- the phases in which a processor can be at a stage
 abbrev pub StageAt : Stage → Phase → Type 0
 StageAt (Reach path) phase = IsAt path.place phase
+StageAt (Touch gate task) phase = GateAt gate phase
 StageAt (Leave decided) phase = IsIn phase
 StageAt (End decided) phase = phase ≡ Idle
 
@@ -52,24 +56,28 @@ TidyIn part first (In generation) = part ≡ first
 
 abbrev pub IsTidy : ℕ → ℕ → Stage → Phase → Type 0
 IsTidy part first (Reach path) phase = TidyIn part first phase
+IsTidy part first (Touch gate task) phase = TidyIn part first phase
 IsTidy part first (Leave decided) phase = part ≡ first
 IsTidy part first (End decided) phase = part ≡ first
 
 -- a stage from which a step is made
 abbrev pub is_going : Stage → Bool
 is_going (Reach path) = true
+is_going (Touch gate task) = true
 is_going (Leave decided) = true
 is_going (End decided) = false
 
 -- a port that may be lent to a stage from which a step is made
 abbrev pub StageServes : Stage → Seat → Type 0
 StageServes (Reach path) seat = Serves path.aim path.place seat × (path.place ≢ Over)
+StageServes (Touch gate task) seat = TaskServes gate task seat
 StageServes (Leave decided) seat = IsIn seat.phase × (seat.vp < seat.limits.vps)
 StageServes (End decided) seat = ⊥
 
 -- an access that goes on or was decided has a step left, at least its leave
 abbrev pub Goes : Stage → Stage → Type 0
 Goes (Reach path) next = is_going next ≡ true
+Goes (Touch gate task) next = is_going next ≡ true
 Goes (Leave decided) next = Unit {0}
 Goes (End decided) next = Unit {0}
 

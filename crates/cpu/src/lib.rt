@@ -1,6 +1,7 @@
 //! One virtual processor.
 #![tactic(auto)]
 
+mod beginning;
 mod cpu_turn;
 mod endings;
 mod log;
@@ -8,11 +9,16 @@ mod operations;
 mod processor;
 mod registers;
 mod stage;
+mod stepping;
+mod task;
+mod touching;
 
 pub use cpu_turn::CpuTurn;
 pub use processor::Cpu;
 
 #[cfg(test)]
 mod fed;
+#[cfg(test)]
+mod switch_tests;
 #[cfg(test)]
 mod tests;

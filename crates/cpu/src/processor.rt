@@ -5,21 +5,24 @@ ghost use Rattle.vsm_core.specs.Processor.{opening, standing, operation_at, oper
 ghost use Rattle.vsm_core.specs.Attempt.{Outcome, attempt, most_steps_of};
 ghost use Rattle.vsm_core.specs.Tree.{Ends};
 ghost use Rattle.cpu.specs.Sound.{length_at};
+ghost use Rattle.vtl_state.specs.States.{state_of};
 ghost use Rattle.cpu.specs.Results.{outcome, result_of};
 ghost use Rattle.cpu.specs.Turns.{Keeps, VpServes, TurnsBy, Wakes, answer_at, after_mark, phase_at};
 
+use crate::beginning::{begin, begun};
 use crate::cpu_turn::{CpuTurn, after_mark};
 use crate::endings::{ending, ending_on, opening_ending};
 use crate::log::Log;
 use crate::operations::{Decided, again, finish};
-use crate::registers::word_of;
-use crate::stage::{Stage, Under, begin, begun, is_going, step};
+use crate::stage::{Stage, Under, is_going};
+use crate::stepping::step;
 use fabric::Port;
 use register_file::Bank;
 use std::alloc::Global;
 use std::marker::Model;
 use vsm_base::{Items, Limits, Memory, Name, Reserved, VpIndex, Vtl};
 use vsm_core::{Ending, Event, Grant, GuestFault, Mark, Op, PendingWord, Phase, Program, What};
+use vtl_state::{Levels, word_of};
 
 /// A virtual processor.
 #[derive(Drop)]
@@ -30,7 +33,7 @@ pub struct Cpu {
     one_length: usize,
     started: bool,
     bank: Bank,
-    active: Vtl,
+    levels: Levels,
     under: Option<Under>,
     log: Log,
 }
@@ -46,19 +49,19 @@ impl Model for Cpu {
     ghost invariant = { IsSound };
 }
 
-fn length_of(zero: usize, one: usize, level: Vtl) -> usize
-    ensures { result ≡ length_at zero one level }
+fn length_of(zero: usize, one: usize, levels: &Levels) -> usize
+    ensures { result ≡ length_at zero one levels.now.active }
 {
-    match level {
+    match levels.active() {
         Vtl::Zero => zero,
         Vtl::One => one,
     }
 }
 
-fn operations(program: &Program, level: Vtl) -> &[Op]
-    ensures { result.now ≡ operations_of program.now level }
+fn operations<'a>(program: &'a Program, levels: &Levels) -> &'a [Op]
+    ensures { result.now ≡ operations_of program.now levels.now.active }
 {
-    match level {
+    match levels.active() {
         Vtl::Zero => program.zero.as_slice(),
         Vtl::One => program.one.as_slice(),
     }
@@ -100,7 +103,7 @@ impl Cpu {
             one_length: program.one.len(),
             started,
             bank: Bank::opening(),
-            active: Vtl::Zero,
+            levels: Levels::opening(),
             under: None,
             log,
         })
@@ -121,10 +124,12 @@ impl Cpu {
         ensures kept { Keeps self.old self.new }
         ensures within { length self.new.marks ≤ self.old.limits.budget }
     {
-        let rip = word_of(&self.bank, self.active, Name::Rip);
-        let what = finish(&mut self.bank, self.active, op, decided);
-        let now = word_of(&self.bank, self.active, Name::Rip);
-        let length = length_of(self.zero_length, self.one_length, self.active);
+        let level = self.levels.active();
+        let rip = word_of(&self.bank, &self.levels, Name::Rip);
+        let pages = self.limits.pages;
+        let what = finish(&mut self.bank, &mut self.levels, pages, op, decided);
+        let now = word_of(&self.bank, &self.levels, Name::Rip);
+        let length = length_of(self.zero_length, self.one_length, &self.levels);
         let marks = self.log.marks.as_slice().len() + 1;
         let ended = ending(
             length,
@@ -136,7 +141,7 @@ impl Cpu {
         );
         let turn = after_mark(&what, ended);
         self.under = None;
-        self.log.mark(self.active, rip, what, ended);
+        self.log.mark(level, rip, what, ended);
         turn
     }
 
@@ -158,8 +163,9 @@ impl Cpu {
         ensures kept { Keeps self.old self.new }
         ensures within { length self.new.marks ≤ self.old.limits.budget }
     {
-        let rip = word_of(&self.bank, self.active, Name::Rip);
-        let length = length_of(self.zero_length, self.one_length, self.active);
+        let level = self.levels.active();
+        let rip = word_of(&self.bank, &self.levels, Name::Rip);
+        let length = length_of(self.zero_length, self.one_length, &self.levels);
         let marks = self.log.marks.as_slice().len();
         let spins = self.log.spins + 1;
         match ending_on(length, self.limits.budget, rip, marks, spins) {
@@ -169,9 +175,9 @@ impl Cpu {
                 CpuTurn::Ended(ending)
             }
             None => {
-                let stage = begin(self.limits.pages, &self.bank, self.active, op);
+                let stage = begin(self.limits.pages, &self.bank, &self.levels, op);
                 self.under = Some(Under { op, stage });
-                self.log.mark_again(self.active, rip, grant);
+                self.log.mark_again(level, rip, grant);
                 CpuTurn::Again
             }
         }
@@ -218,8 +224,8 @@ impl Cpu {
         ensures kept { IfSome self.new.op (λ op. operation_at program.now self.new.state ≡ Some op) }
         ensures within { length self.new.marks ≤ self.old.limits.budget }
     {
-        let ops = operations(program, self.active);
-        let under = begun(self.limits.pages, &self.bank, self.active, self.under, ops);
+        let ops = operations(program, &self.levels);
+        let under = begun(self.limits.pages, &self.bank, &self.levels, self.under, ops);
         self.log.stand();
         self.under = Some(under);
         if !is_going(&under.stage) {
@@ -247,7 +253,8 @@ impl Cpu {
         ensures idle { self.new.op ≡ None }
         ensures within { length self.new.marks ≤ self.old.limits.budget }
     {
-        let rip = word_of(&self.bank, self.active, Name::Rip);
+        let level = self.levels.active();
+        let rip = word_of(&self.bank, &self.levels, Name::Rip);
         let bits = port.take(PendingWord::Start);
         if bits == 0 {
             return CpuTurn::Idle;
@@ -257,12 +264,8 @@ impl Cpu {
             word: PendingWord::Start,
             bits,
         });
-        self.log.mark(
-            self.active,
-            rip,
-            What::Fault(fault),
-            Some(Ending::Fault(fault)),
-        );
+        self.log
+            .mark(level, rip, What::Fault(fault), Some(Ending::Fault(fault)));
         self.under = None;
         CpuTurn::Ended(Ending::Fault(fault))
     }
@@ -353,6 +356,14 @@ impl Cpu {
         &self.bank
     }
 
+    /// The levels: which is active, and whether level 1 is enabled.
+    pub fn levels(&self) -> &Levels
+        ensures active { result.now.active ≡ self.now.state.active }
+        ensures enabled { result.now.enabled ≡ self.now.state.enabled }
+    {
+        &self.levels
+    }
+
     /// The marks and the events, oldest first.
     pub fn into_lists(self) -> (Items<Mark>, Items<Event>)
         ensures marks { result.0 ≡ self.marks }
@@ -375,5 +386,22 @@ impl Cpu {
         let mut cpu = self;
         cpu.log.spins = spins;
         cpu
+    }
+
+    /// The processor in this state, if no attempt is under way and the active level then has an operation where it
+    /// stands.
+    pub fn with_state(self, bank: Bank, levels: Levels) -> Option<Cpu>
+        ensures state { IfSome result (λ cpu. cpu ≡ record self { state = state_of bank levels }) }
+        ensures idle { IfSome result (λ cpu. cpu.op ≡ None) }
+    {
+        let rip = word_of(&bank, &levels, Name::Rip);
+        let length = length_of(self.zero_length, self.one_length, &levels);
+        if self.under.is_some() || rip >= length as u64 {
+            return None;
+        }
+        let mut cpu = self;
+        cpu.bank = bank;
+        cpu.levels = levels;
+        Some(cpu)
     }
 }

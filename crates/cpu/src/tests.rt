@@ -11,7 +11,7 @@ use vsm_core::{
     Denial, Ending, Grant, GuestFault, Mark, Op, Operand, Phase, Posted, Program, What,
 };
 
-const LIMITS: Limits = Limits {
+pub const LIMITS: Limits = Limits {
     vps: 1,
     pages: 2,
     budget: 10,
@@ -24,7 +24,7 @@ fn program_of(alloc: Global, ops: &[Op]) -> Result<Program, Fail> {
     })
 }
 
-fn processor(alloc: Global, started: bool, program: &Program) -> Result<Cpu, Fail>
+pub fn processor(alloc: Global, started: bool, program: &Program) -> Result<Cpu, Fail>
     ensures fits { IfOk result (λ cpu. Fits program.now cpu) }
     ensures number { IfOk result (λ cpu. cpu.number ≡ 0) }
     ensures limits { IfOk result (λ cpu. cpu.limits ≡ LIMITS) }
@@ -33,17 +33,19 @@ fn processor(alloc: Global, started: bool, program: &Program) -> Result<Cpu, Fai
     Ok(Cpu::new(alloc, VpIndex(0), &LIMITS, started, program)?)
 }
 
-fn plain(alloc: Global, mask: Mask, word: u64) -> Result<PlainFabric, Fail>
+pub fn plain(alloc: Global, mask: Mask, word: u64) -> Result<PlainFabric, Fail>
     ensures limits { IfOk result (λ f. f.limits ≡ LIMITS) }
     ensures idle { IfOk result (λ f. get_or f.fabric.phases 0 Phase.Idle ≡ Phase.Idle) }
 {
-    Ok(PlainFabric::new(alloc, &LIMITS, &[mask; 2], &[word; 1024])?)
+    let masks = vec![in alloc; mask; 2]?;
+    let words = vec![in alloc; word; 512 * LIMITS.pages as usize]?;
+    Ok(PlainFabric::new(alloc, &LIMITS, &masks, &words)?)
 }
 
 /// A memory word of page 0.
-fn word(fabric: &PlainFabric, index: usize) -> Option<u64> {
-    let at = (Layout::of(&LIMITS).memory as usize).checked_add(index)?;
-    fabric.words().get(at).copied()
+pub fn word(fabric: &PlainFabric, index: usize) -> Option<u64> {
+    let memory = Layout::of(&LIMITS).memory as usize;
+    fabric.words().get(memory.saturating_add(index)).copied()
 }
 
 fn fed(alloc: Global, answers: &[u64]) -> Result<Fed, Fail>
@@ -62,24 +64,21 @@ fn fed(alloc: Global, answers: &[u64]) -> Result<Fed, Fail>
     })
 }
 
-/// Makes one turn, and tells how many events stand then, where the attempt goes on and no mark stands.
-fn seen_after<P: Port>(cpu: &mut Cpu, port: &mut P, program: &Program) -> Option<usize>
+/// Makes a turn, if there is no ending. How many events are then seen?
+fn seen_after_turn<P: Port>(cpu: &mut Cpu, port: &mut P, program: &Program) -> usize
     requires fits { Fits program.now cpu.old }
     requires serves { VpServes cpu.old (P.seat port.old) }
     ensures fits { Fits program.now cpu.new }
     ensures serves { VpServes cpu.new (P.seat port.new) }
 {
-    if cpu.ended().is_some() {
-        return None;
+    if cpu.ended().is_none() {
+        cpu.turn(port, program);
     }
-    match cpu.turn(port, program) {
-        CpuTurn::Moved if cpu.marks().is_empty() => Some(cpu.seen().len()),
-        _ => None,
-    }
+    cpu.seen().len()
 }
 
 /// Makes turns until one doesn't answer that the attempt goes on, at most so many.
-fn attempt<P: Port>(cpu: &mut Cpu, port: &mut P, program: &Program) -> Option<CpuTurn>
+pub fn attempt<P: Port>(cpu: &mut Cpu, port: &mut P, program: &Program) -> Option<CpuTurn>
     requires fits { Fits program.now cpu.old }
     requires serves { VpServes cpu.old (P.seat port.old) }
     ensures fits { Fits program.now cpu.new }
@@ -98,7 +97,7 @@ fn attempt<P: Port>(cpu: &mut Cpu, port: &mut P, program: &Program) -> Option<Cp
 }
 
 /// Makes so many attempts.
-fn attempts<P: Port>(cpu: &mut Cpu, port: &mut P, program: &Program, count: usize)
+pub fn attempts<P: Port>(cpu: &mut Cpu, port: &mut P, program: &Program, count: usize)
     requires fits { Fits program.now cpu.old }
     requires serves { VpServes cpu.old (P.seat port.old) }
     ensures fits { Fits program.now cpu.new }
@@ -255,10 +254,10 @@ fn a_spin_leaves_its_last_attempt_alone(rt: HostRuntime) -> Result<(), Fail> {
     assert_eq!(rt; cpu.standing(), 0);
     assert_eq!(rt; cpu.seen().len(), 5);
     // The mark goes at the next turn, and the events at the check of the next attempt.
-    assert_eq!(rt; seen_after(&mut cpu, &mut port, &program), Some(6));
-    assert_eq!(rt; seen_after(&mut cpu, &mut port, &program), Some(2));
-    assert_eq!(rt; seen_after(&mut cpu, &mut port, &program), Some(3));
-    assert_eq!(rt; seen_after(&mut cpu, &mut port, &program), Some(4));
+    assert_eq!(rt; seen_after_turn(&mut cpu, &mut port, &program), 6);
+    assert!(rt; cpu.marks().is_empty());
+    assert_eq!(rt; seen_after_turn(&mut cpu, &mut port, &program), 2);
+    assert_eq!(rt; seen_after_turn(&mut cpu, &mut port, &program), 3);
     assert_eq!(rt;
         attempt(&mut cpu, &mut port, &program),
         Some(CpuTurn::Again)

@@ -7,18 +7,19 @@ use Rattle.vsm_base.specs.declared.places.Vtl.{Vtl}
 use Rattle.vsm_base.specs.declared.places.Vtl.TheVariants.{Zero, One}
 use Rattle.vsm_core.specs.declared.mark.Grant.{Grant}
 use Rattle.vsm_core.specs.declared.mark.GuestFault.{GuestFault}
-use Rattle.vsm_core.specs.declared.mark.GuestFault.TheVariants.{Unmapped, Page}
+use Rattle.vsm_core.specs.declared.mark.GuestFault.TheVariants.{Unmapped, Page, Undefined}
 use Rattle.vsm_core.specs.declared.mark.What.{What}
 use Rattle.vsm_core.specs.declared.mark.What.TheVariants.{Granted, Again, Denied}
 use Rattle.vsm_core.specs.declared.operation.Op.{Op}
-use Rattle.vsm_core.specs.declared.operation.Op.TheVariants.{Load, Store, Exec, Spin}
+use Rattle.vsm_core.specs.declared.operation.Op.TheVariants.{Load, Store, Exec, Spin, VtlCall, VtlReturn}
 use Rattle.vsm_core.specs.declared.request.Reply.{Reply}
 use Rattle.vsm_core.specs.Tree.{Tree, Ends, Asks, Wants, WordStep, then_, after, follow, Counts}
 use Rattle.vsm_core.specs.State.{State, gone_on, operand}
 use Rattle.vsm_core.specs.Fills.{Fill, Translation}
 use Rattle.vsm_core.specs.Walk.{Walked, Need, Mapped, Refused, walk}
 use Rattle.vsm_core.specs.Access.{Goal, Decision, Grants, Denies, Faults, data_step, covers, behind_mask, reaches, by_mask, at_page, entry_step, by_table_mask, at_table, tables, access, query_of, start_fault}
-use Rattle.vsm_core.specs.Attempt.{Outcome, attempt, by_access, begun, leaves, most_steps, most_steps_of, goal_of, loaded, passed, spun}
+use Rattle.vsm_core.specs.Switch.{may_call, may_return, called, assist_page, restored_from, by_call}
+use Rattle.vsm_core.specs.Attempt.{Outcome, attempt, by_access, begun, leaves, most_steps, most_steps_of, goal_of, loaded, passed, spun, enters, returns, faulted}
 
 pub Counts-then_ : {A B : Type 0} (most : A → ℕ) (most_then : B → ℕ) (n : ℕ) (t : Tree A) (f : A → Tree B) → Counts most n t → ((m : ℕ) (a : A) → m ≤ most a → Counts most_then m (f a)) → Counts most_then n (then_ t f)
 Counts-then_ most most_then n (Ends a) f h g = g n a h
@@ -97,11 +98,21 @@ spun-no false state now grant = omega arith
 by_access-counts : (state : State) (granted : Grant → What × State) (goal : Goal) → IsNoDenial granted → Counts most_steps 0 (by_access state granted goal)
 by_access-counts state granted goal never = begun-counts state granted goal (start_fault goal) never
 
+enters-counts : (page : Option ℕ) (reason : ℕ) (state : State) → Counts most_steps 0 (enters page reason state)
+enters-counts None reason state = omega arith
+enters-counts (Some page) reason state = λ a. λ b. λ c. λ d. omega arith
+
+returns-counts : (page : Option ℕ) (state : State) → Counts most_steps 0 (returns page state)
+returns-counts None state = omega arith
+returns-counts (Some page) state = λ a. λ b. λ c. λ d. λ e. omega arith
+
 pub attempt-counts : (pages : ℕ) (state : State) (op : Op) → Counts most_steps 0 (attempt pages state op)
 attempt-counts pages state (Load name gva) = by_access-counts state (loaded state name) (goal_of pages state Read true gva.0 0) (λ grant. omega arith)
 attempt-counts pages state (Store gva what) = by_access-counts state (passed state) (goal_of pages state Write true gva.0 (operand state what)) (λ grant. omega arith)
 attempt-counts pages state (Exec gva) = by_access-counts state (passed state) (goal_of pages state Execute false gva.0 0) (λ grant. omega arith)
 attempt-counts pages state (Spin gva value) = by_access-counts state (spun state value) (goal_of pages state Read true gva.0 0) (λ grant. spun-no (grant.value == value) state (gone_on state) grant)
+attempt-counts pages state VtlCall = Counts-cond most_steps 0 (may_call state) (enters (assist_page pages state) by_call (called state)) (Ends (faulted state Undefined)) (enters-counts (assist_page pages state) by_call (called state)) (omega arith)
+attempt-counts pages state VtlReturn = Counts-cond most_steps 0 (may_return state) (returns (restored_from pages state) state) (Ends (faulted state Undefined)) (returns-counts (restored_from pages state) state) (omega arith)
 attempt-counts pages state _ = omega arith
 
 follow-Ends : {A : Type 0} (a : A) (xs : List ℕ) → follow (Ends a) xs ≡ Ends a

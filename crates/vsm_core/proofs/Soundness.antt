@@ -1,5 +1,5 @@
 -- An attempt asks only what may be asked.
-use Rattle.std.proofs.Common.{◌≡◌, ◌≢◌, ◌<◌, ℕ, zero, suc, Bool, true, false, cond, nat_lt, Option, Some, None, List, [], ◌∷◌, ◌++◌, refl, subst, arith}
+use Rattle.std.proofs.Common.{◌≡◌, ◌≢◌, ◌<◌, ℕ, zero, suc, Bool, true, false, cond, nat_lt, Option, Some, None, List, [], ◌∷◌, ◌++◌, refl, subst, arith, ◌%◌, ◌/◌, ◌^◌, ◌==◌, ◌&&◌}
 use Rattle.std.specs.List.{list_all}
 use Rattle.std.proofs.lemmas.Bool.Decides.{nat_tests}
 use Rattle.vsm_base.specs.Masks.{allows}
@@ -12,17 +12,20 @@ use Rattle.vsm_core.specs.declared.event.Event.{Event}
 use Rattle.vsm_core.specs.declared.event.Phase.TheVariants.{Idle}
 use Rattle.vsm_core.specs.declared.mark.Grant.{Grant}
 use Rattle.vsm_core.specs.declared.mark.GuestFault.{GuestFault}
-use Rattle.vsm_core.specs.declared.mark.GuestFault.TheVariants.{Unmapped, Page}
+use Rattle.vsm_core.specs.declared.mark.GuestFault.TheVariants.{Unmapped, Page, Undefined}
 use Rattle.vsm_core.specs.declared.mark.What.{What}
 use Rattle.vsm_core.specs.declared.operation.Op.{Op}
-use Rattle.vsm_core.specs.declared.operation.Op.TheVariants.{Load, Store, Exec, Spin}
+use Rattle.vsm_core.specs.declared.operation.Op.TheVariants.{Load, Store, Exec, Spin, VtlCall, VtlReturn}
 use Rattle.vsm_core.specs.Tree.{Tree, Ends, Asks, Wants, then_}
 use Rattle.vsm_core.specs.State.{State, operand}
 use Rattle.vsm_core.specs.Steps.{IsIn, phase_of}
 use Rattle.vsm_core.specs.Fills.{Fill, Translation}
 use Rattle.vsm_core.specs.Walk.{Query, Walked, Need, Mapped, Refused, walk, paged, of_entries, is_paging, is_canonical, is_present, is_right}
 use Rattle.vsm_core.specs.Access.{Goal, Decision, Denies, Faults, data_step, covers, behind_mask, reaches, by_mask, at_page, entry_step, by_table_mask, at_table, tables, access, query_of, start_fault}
-use Rattle.vsm_core.specs.Attempt.{attempt, by_access, begun, leaves, goal_of, loaded, passed, spun}
+use Rattle.vsm_core.specs.Registers.{get as get_in}
+use Rattle.vsm_base.specs.declared.name.Name.TheVariants as names
+use Rattle.vsm_core.specs.Switch.{may_call, may_return, called, is_fast, page_if, assist_page, restored_from, by_call}
+use Rattle.vsm_core.specs.Attempt.{attempt, by_access, begun, leaves, goal_of, loaded, passed, spun, enters, returns, faulted}
 use Rattle.vsm_core.specs.Sound.{Sound, IsOver}
 
 -- first the one, and then what its end says
@@ -113,9 +116,43 @@ module _ (limits : Limits) (goal : Goal) (same : goal.pages ≡ limits.pages) wh
   by_access-sound : (es : List Event) (state : State) (granted : Grant → What × State) → phase_of es ≡ Idle → Sound limits IsOver es (by_access state granted goal)
   by_access-sound es state granted idle = begun-sound es state granted (start_fault goal) idle
 
+-- a page that is named is one of those that there are
+abbrev IsThere : ℕ → Option ℕ → Type 0
+IsThere pages None = Unit {0}
+IsThere pages (Some page) = page < pages
+
+page_if-there : (b : Bool) (pages page : ℕ) → (b ≡ true → page < pages) → IsThere pages (page_if b page)
+page_if-there true pages page h = h refl
+page_if-there false pages page h = tt
+
+and-second : (a b : Bool) → (a && b) ≡ true → b ≡ true
+and-second true b e = e
+and-second false b e = cc
+
+assist-there : (pages : ℕ) (state : State) → IsThere pages (assist_page pages state)
+assist-there pages state =
+    let word : ℕ = get_in state.registers One names.VpAssistPage % 2 ^ 64 in
+    page_if-there ((word % 2 == 1) && nat_lt (word / 4096) pages) pages (word / 4096) (λ e. let low = and-second (word % 2 == 1) (nat_lt (word / 4096) pages) e in grind (arith, nat_tests))
+
+unless-there : (b : Bool) (pages : ℕ) (page : Option ℕ) → IsThere pages page → IsThere pages (cond b None page)
+unless-there true pages page h = tt
+unless-there false pages page h = h
+
+enters-sound : (limits : Limits) (page : Option ℕ) (reason : ℕ) (state : State) (es : List Event) → IsThere limits.pages page → phase_of es ≡ Idle → Sound limits IsOver es (enters page reason state)
+enters-sound limits None reason state es low idle = idle
+enters-sound limits (Some page) reason state es low idle = (idle, λ a. (refl, λ b. ((tt, low, omega arith), λ c. ((λ e. cc), λ d. refl))))
+
+returns-sound : (limits : Limits) (page : Option ℕ) (state : State) (es : List Event) → IsThere limits.pages page → phase_of es ≡ Idle → Sound limits IsOver es (returns page state)
+returns-sound limits None state es low idle = idle
+returns-sound limits (Some page) state es low idle = (idle, λ a. (refl, λ b. ((tt, low, omega arith), λ c. ((tt, low, omega arith), λ d. ((λ e. cc), λ f. refl)))))
+
 pub attempt-sound : (limits : Limits) (state : State) (op : Op) (es : List Event) → phase_of es ≡ Idle → Sound limits IsOver es (attempt limits.pages state op)
 attempt-sound limits state (Load name gva) es idle = by_access-sound limits (goal_of limits.pages state Read true gva.0 0) refl es state (loaded state name) idle
 attempt-sound limits state (Store gva what) es idle = by_access-sound limits (goal_of limits.pages state Write true gva.0 (operand state what)) refl es state (passed state) idle
 attempt-sound limits state (Exec gva) es idle = by_access-sound limits (goal_of limits.pages state Execute false gva.0 0) refl es state (passed state) idle
 attempt-sound limits state (Spin gva value) es idle = by_access-sound limits (goal_of limits.pages state Read true gva.0 0) refl es state (spun state value) idle
+attempt-sound limits state VtlCall es idle =
+    Sound-cond limits IsOver es (may_call state) (enters (assist_page limits.pages state) by_call (called state)) (Ends (faulted state Undefined)) (λ _. enters-sound limits (assist_page limits.pages state) by_call (called state) es (assist-there limits.pages state) idle) idle
+attempt-sound limits state VtlReturn es idle =
+    Sound-cond limits IsOver es (may_return state) (returns (restored_from limits.pages state) state) (Ends (faulted state Undefined)) (λ _. returns-sound limits (restored_from limits.pages state) state es (unless-there (is_fast state) limits.pages (assist_page limits.pages state) (assist-there limits.pages state)) idle) idle
 attempt-sound limits state _ es idle = idle

@@ -13,11 +13,12 @@ use Rattle.vsm_core.specs.declared.mark.What.{What}
 use Rattle.vsm_core.specs.declared.mark.What.TheVariants.{Granted, Again, Denied, Fault, Value, Plain}
 use Rattle.vsm_core.specs.declared.mark.Posted.TheVariants.{Held}
 use Rattle.vsm_core.specs.declared.operation.Op.{Op}
-use Rattle.vsm_core.specs.declared.operation.Op.TheVariants.{Set, Get, Load, Store, Exec, Spin, Jump, JumpNe}
+use Rattle.vsm_core.specs.declared.operation.Op.TheVariants.{Set, Get, Load, Store, Exec, Spin, Jump, JumpNe, VtlCall, VtlReturn}
 use Rattle.vsm_core.specs.Fills.{Fill, Cached, Filled, Emptied}
 use Rattle.vsm_core.specs.Registers.{is_legal}
 use Rattle.vsm_core.specs.State.{State, get, put, put_legal, gone_to, gone_on, word_of, privilege_of, may_name, operand}
-use Rattle.vsm_core.specs.Tree.{Tree, Ends, Asks, Leaving, then_}
+use Rattle.vsm_core.specs.Switch.{may_call, may_return, called, returned, assist_page, restored_from, reason_index, rax_index, rcx_index, by_call, entry_word}
+use Rattle.vsm_core.specs.Tree.{Tree, Ends, Asks, Entering, Checking, Reading, Writing, Leaving, then_}
 use Rattle.vsm_core.specs.Access.{Goal, Decision, Grants, Denies, Faults, access, start_fault}
 
 -- what an attempt came to, the state after it, and what it did to the cached translations
@@ -103,6 +104,30 @@ plain state = record { what = Plain; state = state; does = [] }
 abbrev pub jumped : State → Name → ℕ → ℕ → State
 jumped state name value rip = if word_of state name == value then gone_on state else gone_to state rip
 
+-- memory words are touched in an access of their own: it is entered and checked before
+abbrev pub in_access : {A : Type 0} → Tree A → Tree A
+in_access tree = Asks Entering (λ _. Asks Checking (λ _. tree))
+
+-- and left after
+abbrev pub left_with : State → Tree Outcome
+left_with state = Asks Leaving (λ _. Ends (plain state))
+
+-- level 1 is entered in this state: the reason is told on the assist page, where that is on
+abbrev pub enters : Option ℕ → ℕ → State → Tree Outcome
+enters None reason state = Ends (plain state)
+enters (Some page) reason state = in_access (Asks (Writing page reason_index (entry_word reason)) (λ _. left_with state))
+
+-- level 0 is returned to: RAX and RCX are taken from this page, where there is one
+abbrev pub returns : Option ℕ → State → Tree Outcome
+returns None state = Ends (plain (returned state None))
+returns (Some page) state = in_access (Asks (Reading page rax_index) (λ rax. Asks (Reading page rcx_index) (λ rcx. left_with (returned state (Some (rax, rcx))))))
+
+abbrev pub call_tree : ℕ → State → Tree Outcome
+call_tree pages state = if may_call state then enters (assist_page pages state) by_call (called state) else Ends (faulted state Undefined)
+
+abbrev pub return_tree : ℕ → State → Tree Outcome
+return_tree pages state = if may_return state then returns (restored_from pages state) state else Ends (faulted state Undefined)
+
 -- the whole attempt of an operation on so many pages, from this state on
 abbrev pub attempt : ℕ → State → Op → Tree Outcome
 attempt pages state (Set name value) = Ends (set_outcome state name value)
@@ -113,6 +138,8 @@ attempt pages state (Exec gva) = by_access state (passed state) (goal_of pages s
 attempt pages state (Spin gva value) = by_access state (spun state value) (goal_of pages state Read true gva.0 0)
 attempt pages state (Jump rip) = Ends (plain (gone_to state rip))
 attempt pages state (JumpNe name value rip) = Ends (plain (jumped state name value rip))
+attempt pages state VtlCall = call_tree pages state
+attempt pages state VtlReturn = return_tree pages state
 attempt pages state _ = Ends (faulted state Undefined)
 
 -- how many steps an attempt may have that came to this

@@ -8,6 +8,7 @@ pub mod Sound
 pub mod Stand
 pub mod State
 pub mod Steps
+pub mod Switch
 pub mod Tree
 pub mod Turns
 pub mod Walk

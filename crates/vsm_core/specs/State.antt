@@ -1,5 +1,5 @@
--- A processor's state, as far as the operations that are built reach: its registers, and the level that is active.
-use Rattle.std.specs.Prelude.{ℕ, ◌+◌, ◌/◌, ◌%◌, ◌^◌, ◌==◌, ◌||◌, Bool, true, if◌then◌else◌}
+-- A processor's state, as far as the operations that are built reach: its registers, the level that is active, and whether it has level 1.
+use Rattle.std.specs.Prelude.{ℕ, ◌+◌, ◌/◌, ◌%◌, ◌^◌, ◌==◌, ◌||◌, Bool, true, false, if◌then◌else◌}
 use Rattle.vsm_base.specs.declared.name.Name.{Name}
 use Rattle.vsm_base.specs.declared.name.Name.TheVariants as names
 use Rattle.vsm_base.specs.Names.{is_general}
@@ -12,12 +12,13 @@ use Rattle.vsm_core.specs.Registers.{Registers, is_legal, opening, get as get_in
 pub record State : Type 0 where
   pub registers : Registers
   pub active : Vtl
+  pub enabled : Bool
 
 abbrev pub get : State → Name → ℕ
 get state name = get_in state.registers state.active name
 
 abbrev pub put : State → Name → ℕ → State
-put state name value = record { registers = put_in state.registers state.active name value; active = state.active }
+put state name value = record state { registers = put_in state.registers state.active name value }
 
 -- a register takes no value that has a must-be-zero bit
 abbrev pub put_legal : State → Name → ℕ → State
@@ -57,4 +58,4 @@ operand state (Number value) = value
 operand state (Register name) = word_of state name
 
 unfoldable pub opening_state : State
-opening_state = record { registers = opening; active = Zero }
+opening_state = record { registers = opening; active = Zero; enabled = false }

@@ -1,7 +1,7 @@
 use Rattle.std.proofs.Common.{arith, ◌≡◌, Some, None, true, false, refl, sym, ap, ◌∙◌}
 use Rattle.vsm_core.specs.Processor.{Vp, operation_at}
 use Rattle.vsm_core.specs.Seat.{Seat}
-use Rattle.cpu.specs.Results.{state_of}
+use Rattle.vtl_state.specs.States.{state_of}
 use Rattle.cpu.specs.Sound.{view_of}
 use Rattle.cpu.specs.Stages.{StageSteps}
 use Rattle.cpu.specs.Turns.{phase_at}
@@ -17,11 +17,11 @@ returns-then-not-is_going-clause-turned g c =
     let v = view_of i in
     let u = c.begun-under.result in
     let means = c.begun-under.ensures.means i.log.seen.0 i.log.part i.log.first c.self.invariant.means in
-    let ends = going-ends (state_of i.bank i.active) u.op u.stage _ (sym c.is_going.ensures ∙ c.if-not-is_going.true) means.rest in
+    let ends = going-ends (state_of i.bank i.levels) u.op u.stage _ (sym c.is_going.ensures ∙ c.if-not-is_going.true) means.rest in
     let own : operation_at c.args.program.now v.state ≡ Some u.op = rw (← c.operations-ops.ensures) c.begun-under.ensures.op in
-    let v1 : Vp = view_of (record { vp = i.vp; limits = i.limits; zero_length = i.zero_length; one_length = i.one_length; started = i.started; bank = i.bank; active = i.active; under = Some u; log = c.stand.new.self }) in
+    let v1 : Vp = view_of (record { vp = i.vp; limits = i.limits; zero_length = i.zero_length; one_length = i.one_length; started = i.started; bank = i.bank; levels = i.levels; under = Some u; log = c.stand.new.self }) in
     rw (← c.self.view_is, own) (local-by v v1 c.settle.new.self u.op ends.0 (g.P.Port.seat c.args.port.now) c.settle.result ends.1 (rw c.stand.ensures refl)
-    (λ grant. again-kept i.limits.pages (state_of i.bank i.active) i.under u i.log.seen.0 i.log.part i.log.first ends.0 grant c.self.invariant.means c.begun-under.ensures.kept ends.1)
+    (λ grant. again-kept i.limits.pages (state_of i.bank i.levels) i.under u i.log.seen.0 i.log.part i.log.first ends.0 grant c.self.invariant.means c.begun-under.ensures.kept ends.1)
     c.settle.ensures.new c.settle.ensures.turn)
 
 pub invariant_of-self-2 : goal.invariant_of-self-2
@@ -57,13 +57,13 @@ invariant_of-self-2 g c =
     })
 
 -- what the step did
-way : (g : Over) (c : goal.After-settle-2 g) → Stepped c.self.inside.limits.pages (state_of c.self.inside.bank c.self.inside.active) c.begun-under.result.op c.self.inside.log.seen.0 c.self.inside.log.part c.self.inside.log.first (g.P.Port.seat c.args.port.now) (g.P.Port.seat c.step-step.new.port) c.step-step.result
+way : (g : Over) (c : goal.After-settle-2 g) → Stepped c.self.inside.limits.pages (state_of c.self.inside.bank c.self.inside.levels) c.begun-under.result.op c.self.inside.log.seen.0 c.self.inside.log.part c.self.inside.log.first (g.P.Port.seat c.args.port.now) (g.P.Port.seat c.step-step.new.port) c.step-step.result
 way g c =
     let i = c.self.inside in
     let w = c.self.invariant in
     let old = g.P.Port.seat c.args.port.now in
     let phase : old.phase ≡ phase_at i.log.seen.0 i.log.first = rw (← c.self.view_is) at c.requires.serves.phase in
-    stepped i.limits.pages (state_of i.bank i.active) c.begun-under.result i.log.seen.0 i.log.part i.log.first old (g.P.Port.seat c.step-step.new.port) c.step-step.result w.part_le w.first_le phase (c.begun-under.ensures.means i.log.seen.0 i.log.part i.log.first w.means) c.step-step.ensures
+    stepped i.limits.pages (state_of i.bank i.levels) c.begun-under.result i.log.seen.0 i.log.part i.log.first old (g.P.Port.seat c.step-step.new.port) c.step-step.result w.part_le w.first_le phase (c.begun-under.ensures.means i.log.seen.0 i.log.part i.log.first w.means) c.step-step.ensures
 
 pub returns-clause-turned : goal.returns-clause-turned
 returns-clause-turned g c =
@@ -71,7 +71,7 @@ returns-clause-turned g c =
     let v = view_of i in
     let u = c.begun-under.result in
     let own : operation_at c.args.program.now v.state ≡ Some u.op = rw (← c.operations-ops.ensures) c.begun-under.ensures.op in
-    let v1 : Vp = view_of (record { vp = i.vp; limits = i.limits; zero_length = i.zero_length; one_length = i.one_length; started = i.started; bank = i.bank; active = i.active; under = Some (record { op = u.op; stage = c.step-step.result.stage }); log = c.see.new.self }) in
+    let v1 : Vp = view_of (record { vp = i.vp; limits = i.limits; zero_length = i.zero_length; one_length = i.one_length; started = i.started; bank = i.bank; levels = i.levels; under = Some (record { op = u.op; stage = c.step-step.result.stage }); log = c.see.new.self }) in
     rw (← c.self.view_is, own) (turned-by v v1 c.settle-2.new.self u.op (g.P.Port.seat c.args.port.now) (g.P.Port.seat c.step-step.new.port) c.step-step.result c.settle-2.result (way g c) (rw (c.see.ensures, c.stand.ensures) refl) c.settle-2.ensures.new c.settle-2.ensures.turn)
 
 pub returns-clause-serves : goal.returns-clause-serves

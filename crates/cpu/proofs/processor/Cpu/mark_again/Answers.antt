@@ -3,7 +3,7 @@ use Rattle.vsm_core.specs.declared.mark.What.TheVariants.{Again}
 use Rattle.vsm_core.specs.Attempt.{Outcome, attempt}
 use Rattle.vsm_core.specs.Tree.{Ends}
 use Rattle.cpu.specs.Logs.{mark_in}
-use Rattle.cpu.specs.Results.{state_of}
+use Rattle.vtl_state.specs.States.{state_of}
 use Rattle.cpu.specs.Stages.{op_of}
 use Rattle.cpu.proofs.Attempts.{begun-under, tidy-begun}
 use Rattle.cpu.proofs.Spins.{spins-on}
@@ -18,10 +18,10 @@ invariant_of-self-in-None c =
     let going : i.log.ended ≡ None = rw (← c.self.view_is) at c.requires.going in
     let part_few = rw fresh at v.part_few in
     let room = rw fresh at v.room in
-    let mark = mark_in i.log i.active c.word_of-rip.result (Again c.args.grant) in
+    let mark = mark_in i.log c.active-level.result c.word_of-rip.result (Again c.args.grant) in
     let tidy : i.log.part ≡ i.log.first = rw (← c.self.view_is) at c.requires.tidy in
     let op : op_of i.under ≡ Some c.args.op = rw (← c.self.view_is) at c.requires.op in
-    let asks : (o : Outcome) → attempt i.limits.pages (state_of i.bank i.active) c.args.op ≢ Ends o = rw (← c.self.view_is) at c.requires.asks in
+    let asks : (o : Outcome) → attempt i.limits.pages (state_of i.bank i.levels) c.args.op ≢ Ends o = rw (← c.self.view_is) at c.requires.asks in
     let more = length-append i.log.marks.0 (mark ∷ []) in
     rw c.mark_again.ensures (record {
       vp = v.vp;
@@ -39,5 +39,5 @@ invariant_of-self-in-None c =
       spins = λ e. spins-on _ i.log.spins (v.spins going) (sym c.ending_on.ensures ∙ c.in-None.is);
       waits = λ e. let none : op_of None ≡ Some c.args.op = rw (v.waits e) at op in cc;
       fresh = λ e. let none : op_of None ≡ Some c.args.op = rw (v.waits e) at op in cc;
-      means = begun-under i.limits.pages (state_of i.bank i.active) _ i.log.seen.0 i.log.part _ refl (tidy-begun i.log.part _ (state_of i.bank i.active) c.args.op c.begin-stage.result _ c.begin-stage.ensures.rest c.begin-stage.ensures.idle asks) c.begin-stage.ensures.is c.begin-stage.ensures.rest c.begin-stage.ensures.idle;
+      means = begun-under i.limits.pages (state_of i.bank i.levels) _ i.log.seen.0 i.log.part _ refl (tidy-begun i.log.part _ (state_of i.bank i.levels) c.args.op c.begin-stage.result _ c.begin-stage.ensures.rest c.begin-stage.ensures.idle asks) c.begin-stage.ensures.is c.begin-stage.ensures.rest c.begin-stage.ensures.idle;
     })

@@ -18,7 +18,7 @@ invariant_of-result c = record {
   room = λ e. rw c.in_ok-marks.ensures c.requires.budget_some;
   running = λ started ended.
       let runs : ran_out c.len-zero_length.result c.args.limits.now.budget 0 0 ≡ None = sym (rw started at c.opening_ending-ended.ensures) ∙ ended in
-      rw (c.opening.ensures.opening, rip-opening) (ran_out-none c.len-zero_length.result c.args.limits.now.budget c.requires.budget_some runs);
+      rw (c.opening.ensures.opening, c.opening-2.ensures, rip-opening) (ran_out-none c.len-zero_length.result c.args.limits.now.budget c.requires.budget_some runs);
   spins = λ e. spins-open;
   waits = λ e. refl;
   fresh = λ e. refl;

@@ -1,0 +1,254 @@
+ghost use Rattle.std.specs.Prelude.{◌≡◌, get_or, IfOk, IfSome, None};
+ghost use Rattle.cpu.specs.Turns.{VpServes, Fits, phase_at};
+
+use super::*;
+use crate::tests::{LIMITS, attempt, attempts, plain, processor, word};
+use fabric::{PlainFabric, Port};
+use register_file::{Bank, Context};
+use std::alloc::Global;
+use std::test::Fail;
+use vsm_base::{Items, Mask, Name, Page, VpIndex, Vtl};
+use vsm_core::{Ending, Event, GuestFault, Mark, Op, Phase, Program, What};
+use vtl_state::Levels;
+
+/// A register of a level, and a value.
+type Put = (Vtl, Name, u128);
+
+/// Level 1's assist page is page 1, and is on.
+const PAGE_1: Put = (Vtl::One, Name::VpAssistPage, 0x1001);
+
+/// Why a processor at an operation that is undefined there ends.
+const UNDEFINED: GuestFault = GuestFault::Undefined;
+
+fn programs(alloc: Global, zero: &[Op], one: &[Op]) -> Result<Program, Fail> {
+    Ok(Program {
+        zero: Items::from_vec(Vec::from_slice(alloc, zero)?),
+        one: Items::from_vec(Vec::from_slice(alloc, one)?),
+    })
+}
+
+/// The processor with level 1 enabled, these registers, and this level active.
+fn placed(cpu: Cpu, level: Vtl, puts: &[Put]) -> Option<Cpu>
+    ensures state { IfSome result (λ now. now ≡ record cpu { state = now.state }) }
+    ensures idle { IfSome result (λ now. now.op ≡ None) }
+{
+    let mut bank = Bank::opening();
+    let mut levels = Levels::opening();
+    let context = Context::read(&[0; 28]).ok()?;
+    levels.enable(&mut bank, Vtl::One, &context).ok()?;
+    for (level, name, value) in puts {
+        bank.put(*level, *name, *value).ok()?;
+    }
+    if levels.enabled(level) {
+        levels.begin_at(level);
+    }
+    cpu.with_state(bank, levels)
+}
+
+fn machine(alloc: Global, program: &Program, level: Vtl, puts: &[Put]) -> Result<Cpu, Fail>
+    ensures fits { IfOk result (λ cpu. Fits program.now cpu) }
+    ensures number { IfOk result (λ cpu. cpu.number ≡ 0) }
+    ensures limits { IfOk result (λ cpu. cpu.limits ≡ LIMITS) }
+    ensures idle { IfOk result (λ cpu. phase_at cpu.seen cpu.first ≡ Phase.Idle) }
+{
+    let cpu = processor(alloc, true, program)?;
+    match placed(cpu, level, puts) {
+        Some(cpu) => Ok(cpu),
+        None => Err("a processor with level 1".into()),
+    }
+}
+
+/// Words of 7, but for what a return takes from page 1.
+fn assisted(alloc: Global, rax: u64, rcx: u64) -> Result<PlainFabric, Fail>
+    ensures limits { IfOk result (λ f. f.limits ≡ LIMITS) }
+    ensures idle { IfOk result (λ f. get_or f.fabric.phases 0 Phase.Idle ≡ Phase.Idle) }
+{
+    let masks = vec![in alloc; Mask::all(); 2]?;
+    let mut words = vec![in alloc; 7; 1024]?;
+    words[514] = rax;
+    words[515] = rcx;
+    Ok(PlainFabric::new(alloc, &LIMITS, &masks, &words)?)
+}
+
+/// A mark of an attempt of level 0 or 1 that stood there.
+fn mark(level: Vtl, rip: u64, what: What, count: u32) -> Mark {
+    Mark {
+        level,
+        rip,
+        what,
+        first: 0,
+        count,
+    }
+}
+
+#[test]
+fn a_call_tells_why_it_enters(rt: HostRuntime) -> Result<(), Fail> {
+    let alloc = rt.alloc();
+    let program = programs(alloc, &[Op::VtlCall], &[Op::Eoi, Op::Jump(2)])?;
+    let puts = [PAGE_1, (Vtl::One, Name::Rip, 1)];
+    let mut cpu = machine(alloc, &program, Vtl::Zero, &puts)?;
+    let mut fabric = plain(alloc, Mask::all(), 7)?;
+    let mut port = fabric.port(VpIndex(0));
+    assert_eq!(rt;
+        attempt(&mut cpu, &mut port, &program),
+        Some(CpuTurn::Attempt)
+    );
+    let events = [
+        Event::Enter,
+        Event::Check { generation: 0 },
+        Event::Write {
+            page: Page(1),
+            index: 1,
+            value: 1,
+        },
+        Event::Leave,
+    ];
+    assert_eq!(rt; cpu.seen(), events.as_slice());
+    let called = mark(Vtl::Zero, 0, What::Plain, 4);
+    assert_eq!(rt; cpu.marks(), [called].as_slice());
+    assert_eq!(rt; cpu.levels().active(), Vtl::One);
+    assert!(rt; cpu.levels().enabled(Vtl::One));
+    assert_eq!(rt; cpu.bank().get(Vtl::Zero, Name::Rip), 1);
+    assert_eq!(rt; cpu.bank().get(Vtl::One, Name::Rip), 1);
+    // Level 1's program goes on where level 1 stood.
+    let ended = CpuTurn::Ended(Ending::Done);
+    assert_eq!(rt; attempt(&mut cpu, &mut port, &program), Some(ended));
+    assert_eq!(rt; word(&fabric, 512), Some(7));
+    assert_eq!(rt; word(&fabric, 513), Some(1));
+    assert_eq!(rt; word(&fabric, 514), Some(7));
+    Ok(())
+}
+
+#[test]
+fn a_return_takes_rax_and_rcx(rt: HostRuntime) -> Result<(), Fail> {
+    let alloc = rt.alloc();
+    let program = programs(alloc, &[Op::Eoi, Op::Eoi], &[Op::VtlReturn])?;
+    let puts = [PAGE_1, (Vtl::Zero, Name::Rip, 1), (Vtl::Zero, Name::Rax, 5)];
+    let mut cpu = machine(alloc, &program, Vtl::One, &puts)?;
+    let mut fabric = assisted(alloc, 0x55, 0x66)?;
+    let mut port = fabric.port(VpIndex(0));
+    assert_eq!(rt;
+        attempt(&mut cpu, &mut port, &program),
+        Some(CpuTurn::Attempt)
+    );
+    let page = Page(1);
+    let events = [
+        Event::Enter,
+        Event::Check { generation: 0 },
+        Event::Read {
+            page,
+            index: 2,
+            value: 0x55,
+        },
+        Event::Read {
+            page,
+            index: 3,
+            value: 0x66,
+        },
+        Event::Leave,
+    ];
+    assert_eq!(rt; cpu.seen(), events.as_slice());
+    let returned = mark(Vtl::One, 0, What::Plain, 5);
+    assert_eq!(rt; cpu.marks(), [returned].as_slice());
+    assert_eq!(rt; cpu.levels().active(), Vtl::Zero);
+    let bank = cpu.bank();
+    assert_eq!(rt; bank.get(Vtl::Zero, Name::Rax), 0x55);
+    assert_eq!(rt; bank.get(Vtl::Zero, Name::Rcx), 0x66);
+    assert_eq!(rt; bank.get(Vtl::Zero, Name::Rip), 1);
+    assert_eq!(rt; bank.get(Vtl::One, Name::Rip), 1);
+    Ok(())
+}
+
+#[test]
+fn a_fast_return_takes_nothing(rt: HostRuntime) -> Result<(), Fail> {
+    let alloc = rt.alloc();
+    let program = programs(alloc, &[Op::Eoi], &[Op::VtlReturn])?;
+    let puts = [PAGE_1, (Vtl::One, Name::Rcx, 1)];
+    let mut cpu = machine(alloc, &program, Vtl::One, &puts)?;
+    let mut fabric = assisted(alloc, 0x55, 0x66)?;
+    let mut port = fabric.port(VpIndex(0));
+    assert_eq!(rt;
+        attempt(&mut cpu, &mut port, &program),
+        Some(CpuTurn::Attempt)
+    );
+    assert!(rt; cpu.seen().is_empty());
+    assert_eq!(rt; cpu.levels().active(), Vtl::Zero);
+    assert_eq!(rt; cpu.bank().get(Vtl::Zero, Name::Rax), 0);
+    assert_eq!(rt; cpu.bank().get(Vtl::Zero, Name::Rcx), 1);
+    Ok(())
+}
+
+#[test]
+fn no_step_is_made_without_the_page(rt: HostRuntime) -> Result<(), Fail> {
+    let alloc = rt.alloc();
+    let program = programs(alloc, &[Op::VtlCall; 2], &[Op::VtlReturn; 2])?;
+    for assist in [0, 0x1000, 0x2001] {
+        let puts = [(Vtl::One, Name::VpAssistPage, assist)];
+        let mut cpu = machine(alloc, &program, Vtl::Zero, &puts)?;
+        let mut fabric = plain(alloc, Mask::all(), 7)?;
+        let mut port = fabric.port(VpIndex(0));
+        attempts(&mut cpu, &mut port, &program, 4);
+        let marks = [
+            mark(Vtl::Zero, 0, What::Plain, 0),
+            mark(Vtl::One, 0, What::Plain, 0),
+            mark(Vtl::Zero, 1, What::Plain, 0),
+            mark(Vtl::One, 1, What::Plain, 0),
+        ];
+        assert_eq!(rt; cpu.marks(), marks.as_slice());
+        assert!(rt; cpu.seen().is_empty());
+        // The last return leads behind the end of level 0's program.
+        assert_eq!(rt; cpu.ended(), Some(Ending::Done));
+    }
+    Ok(())
+}
+
+#[test]
+fn a_call_may_lead_to_the_end(rt: HostRuntime) -> Result<(), Fail> {
+    let alloc = rt.alloc();
+    let program = programs(alloc, &[Op::VtlCall, Op::VtlCall], &[])?;
+    let mut cpu = machine(alloc, &program, Vtl::Zero, &[])?;
+    let mut fabric = plain(alloc, Mask::all(), 7)?;
+    let mut port = fabric.port(VpIndex(0));
+    let ended = CpuTurn::Ended(Ending::Done);
+    assert_eq!(rt; attempt(&mut cpu, &mut port, &program), Some(ended));
+    Ok(())
+}
+
+#[test]
+fn a_switch_that_is_not_lawful_is_undefined(rt: HostRuntime) -> Result<(), Fail> {
+    let alloc = rt.alloc();
+    let user = 3 << 96;
+    for (op, level, name, value) in [
+        (Op::VtlCall, Vtl::Zero, Name::Cs, user),
+        (Op::VtlCall, Vtl::Zero, Name::Rcx, 1),
+        (Op::VtlCall, Vtl::One, Name::Rcx, 0),
+        (Op::VtlReturn, Vtl::One, Name::Cs, user),
+        (Op::VtlReturn, Vtl::One, Name::Rcx, 2),
+        (Op::VtlReturn, Vtl::Zero, Name::Rcx, 0),
+    ] {
+        let program = programs(alloc, &[op], &[op])?;
+        let mut cpu = machine(alloc, &program, level, &[PAGE_1, (level, name, value)])?;
+        let mut fabric = plain(alloc, Mask::all(), 7)?;
+        let mut port = fabric.port(VpIndex(0));
+        attempts(&mut cpu, &mut port, &program, 2);
+        let refused = mark(level, 0, What::Fault(UNDEFINED), 0);
+        assert_eq!(rt; cpu.marks(), [refused].as_slice());
+        assert_eq!(rt; cpu.ended(), Some(Ending::Fault(UNDEFINED)));
+        assert_eq!(rt; cpu.levels().active(), level);
+        assert_eq!(rt; cpu.bank().get(level, Name::Rip), 0);
+    }
+    Ok(())
+}
+
+#[test]
+fn a_call_needs_level_one(rt: HostRuntime) -> Result<(), Fail> {
+    let alloc = rt.alloc();
+    let program = programs(alloc, &[Op::VtlCall], &[Op::Jump(0)])?;
+    let mut cpu = processor(alloc, true, &program)?;
+    let mut fabric = plain(alloc, Mask::all(), 7)?;
+    let mut port = fabric.port(VpIndex(0));
+    let ended = CpuTurn::Ended(Ending::Fault(UNDEFINED));
+    assert_eq!(rt; attempt(&mut cpu, &mut port, &program), Some(ended));
+    assert!(rt; !cpu.levels().enabled(Vtl::One));
+    Ok(())
+}

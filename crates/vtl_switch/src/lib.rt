@@ -1,0 +1,12 @@
+//! The switches of a processor between its levels.
+#![tactic(auto)]
+
+mod assist;
+mod lawful;
+mod switches;
+
+pub use assist::{entry_word, reason_of, vina_of};
+pub use switches::{Back, Refused, call, call_kind, give_back, interrupt_entry, return_kind};
+
+#[cfg(test)]
+mod tests;
