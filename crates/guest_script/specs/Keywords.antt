@@ -25,6 +25,8 @@ all_keywords =
     words.Spin ∷
     words.Jump ∷
     words.JumpNe ∷
+    words.VtlCall ∷
+    words.VtlReturn ∷
     words.Schedule ∷
     words.End ∷ []
 
@@ -46,6 +48,8 @@ spelling words.Exec = codes "exec"
 spelling words.Spin = codes "spin"
 spelling words.Jump = codes "jump"
 spelling words.JumpNe = codes "jumpne"
+spelling words.VtlCall = codes "vtlcall"
+spelling words.VtlReturn = codes "vtlreturn"
 spelling words.Schedule = codes "schedule"
 spelling words.End = codes "end"
 
@@ -75,6 +79,8 @@ stands words.Exec (stages.Program vp level) = true
 stands words.Spin (stages.Program vp level) = true
 stands words.Jump (stages.Program vp level) = true
 stands words.JumpNe (stages.Program vp level) = true
+stands words.VtlCall (stages.Program vp level) = true
+stands words.VtlReturn (stages.Program vp level) = true
 stands words.Schedule stages.Memory = true
 stands words.Schedule (stages.Program vp level) = true
 stands words.Schedule stages.Schedule = true

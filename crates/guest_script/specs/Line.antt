@@ -179,6 +179,18 @@ jump_ne_line r ws = do
   end ← no_more target.1
   with_op r (ops.JumpNe name.0 value.0 target.0)
 
+-- vtlcall
+unfoldable pub vtl_call_line : Reading → Words → Result Reading Why
+vtl_call_line r ws = do
+  end ← no_more ws
+  with_op r ops.VtlCall
+
+-- vtlreturn
+unfoldable pub vtl_return_line : Reading → Words → Result Reading Why
+vtl_return_line r ws = do
+  end ← no_more ws
+  with_op r ops.VtlReturn
+
 -- all the words as entries, of which there is one at least
 abbrev some_entries : ℕ → Words → Result (List Turns) Why
 some_entries vps [] = Err MissingWord
@@ -214,6 +226,8 @@ after_words r words.Exec ws = exec_line r ws
 after_words r words.Spin ws = spin_line r ws
 after_words r words.Jump ws = jump_line r ws
 after_words r words.JumpNe ws = jump_ne_line r ws
+after_words r words.VtlCall ws = vtl_call_line r ws
+after_words r words.VtlReturn ws = vtl_return_line r ws
 after_words r words.Schedule ws = schedule_line r ws
 after_words r words.End ws = end_line r ws
 

@@ -10,7 +10,7 @@ most_vps = 8
 
 -- how many levels may have a program as the language stands
 abbrev pub most_levels : ℕ
-most_levels = 1
+most_levels = 2
 
 -- a script keeps the limits
 pub record IsWithin (s : Script) : Type 0 where

@@ -21,6 +21,8 @@ pub enum Keyword {
     Spin,
     Jump,
     JumpNe,
+    VtlCall,
+    VtlReturn,
     Schedule,
     End,
 }
@@ -40,7 +42,7 @@ pub enum Stage {
     Done,
 }
 
-const ALL: [Keyword; 18] = [
+const ALL: [Keyword; 20] = [
     Keyword::Vsm,
     Keyword::Vps,
     Keyword::Pages,
@@ -57,6 +59,8 @@ const ALL: [Keyword; 18] = [
     Keyword::Spin,
     Keyword::Jump,
     Keyword::JumpNe,
+    Keyword::VtlCall,
+    Keyword::VtlReturn,
     Keyword::Schedule,
     Keyword::End,
 ];
@@ -83,6 +87,8 @@ impl Keyword {
             Keyword::Spin => b"spin",
             Keyword::Jump => b"jump",
             Keyword::JumpNe => b"jumpne",
+            Keyword::VtlCall => b"vtlcall",
+            Keyword::VtlReturn => b"vtlreturn",
             Keyword::Schedule => b"schedule",
             Keyword::End => b"end",
         }
@@ -127,7 +133,9 @@ pub fn stands(keyword: Keyword, stage: Stage) -> bool
         | Keyword::Exec
         | Keyword::Spin
         | Keyword::Jump
-        | Keyword::JumpNe => matches!(stage, Stage::Program(_, _)),
+        | Keyword::JumpNe
+        | Keyword::VtlCall
+        | Keyword::VtlReturn => matches!(stage, Stage::Program(_, _)),
         Keyword::Schedule | Keyword::End => {
             matches!(
                 stage,

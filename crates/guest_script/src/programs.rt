@@ -37,7 +37,7 @@ impl Programs {
         Ok(Programs { items })
     }
 
-    /// How many operations a processor's program has in a level.
+    /// How many operations a processor's program has in a level (0 or 1).
     pub fn operations(&self, vp: usize, level: u8) -> usize
         requires { vp < length self.now }
         ensures { result ≡ length (operations (program_at self.now vp) level) }
@@ -50,7 +50,7 @@ impl Programs {
         }
     }
 
-    /// Adds an operation to a processor's program. An `Err` changes nothing.
+    /// Adds an operation to a processor's program of a level (0 or 1). An `Err` changes nothing.
     pub fn add(&mut self, vp: usize, level: u8, op: Op) -> Result<(), AllocError>
         requires { vp < length self.old }
         ensures ok { OnOk result (self.new ≡ added self.old vp level op) }

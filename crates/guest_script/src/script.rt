@@ -22,7 +22,7 @@ pub struct Script {
     pub masks: Items<(Page, Mask)>,
     /// The memory words whose value is given, by page and place in the page; any other is 0.
     pub words: Items<(Page, u16, u64)>,
-    /// A program for each processor, empty where none is given.
+    /// The programs of each processor, empty in a level where none is given.
     pub programs: Items<Program>,
     /// The entries of each schedule line.
     pub schedule: Items<Items<Turns>>,
@@ -51,7 +51,7 @@ pub enum Why {
     ExtraWord,
     /// This mask, word or program was given before.
     Twice,
-    /// More than 4,096 operations in a program, or more than 100,000 turns in all.
+    /// More than 4,096 operations in a program of one level, or more than 100,000 turns in all.
     TooMany,
     /// The script ends without `end`.
     Cut,

@@ -19,11 +19,19 @@ fn with_head(alloc: Global, body: &[u8]) -> Result<Vec<u8>, AllocError> {
     Ok(text)
 }
 
-fn with_stores(alloc: Global, count: u32) -> Result<Vec<u8>, AllocError> {
-    let mut text = with_head(alloc, b"program 0 0\n")?;
+fn add_times(text: &mut Vec<u8>, line: &[u8], count: u32) -> Result<(), AllocError> {
     for _ in 0..count {
-        text.extend_from_slice(b"store 0 1\n")?;
+        text.extend_from_slice(line)?;
     }
+    Ok(())
+}
+
+// So many stores in level 0 and so many returns in level 1.
+fn with_two_programs(alloc: Global, stores: u32, returns: u32) -> Result<Vec<u8>, AllocError> {
+    let mut text = with_head(alloc, b"program 0 0\n")?;
+    add_times(&mut text, b"store 0 1\n", stores)?;
+    text.extend_from_slice(b"program 0 1\n")?;
+    add_times(&mut text, b"vtlreturn\n", returns)?;
     text.extend_from_slice(b"end\n")?;
     Ok(text)
 }
@@ -138,6 +146,25 @@ fn jumps_spins_and_executions_are_read_into_a_program(rt: HostRuntime) -> Result
 }
 
 #[test]
+fn each_level_has_its_program(rt: HostRuntime) -> Result<(), Fail> {
+    let text: &[u8] = b"vsm 1\nvps 2\npages 1\nbudget 1\nstarted 2\n\
+program 1 1\nget Rax\n vtlreturn \njump 0\nprogram 0 0\nvtlcall\nvtlreturn\n\
+program 0 1\nprogram 1 0\nvtlcall\nvtlcall\nend\n";
+    let script = read(rt.alloc(), text)?;
+    assert_eq!(rt; script.programs.len(), 2);
+    let first = &script.programs.as_slice()[0];
+    let ops = [Op::VtlCall, Op::VtlReturn];
+    assert_eq!(rt; first.zero.as_slice(), ops.as_slice());
+    assert_eq!(rt; first.one.len(), 0);
+    let second = &script.programs.as_slice()[1];
+    let ops = [Op::VtlCall, Op::VtlCall];
+    assert_eq!(rt; second.zero.as_slice(), ops.as_slice());
+    let ops = [Op::Get(Name::Rax), Op::VtlReturn, Op::Jump(0)];
+    assert_eq!(rt; second.one.as_slice(), ops.as_slice());
+    Ok(())
+}
+
+#[test]
 fn eight_processors_have_each_its_program(rt: HostRuntime) -> Result<(), Fail> {
     let text: &[u8] = b"vsm 1\nvps 8\npages 1\nbudget 1\nstarted 8\n\
 program 7 0\njump 17\nprogram 0 0\njump 10\nprogram 1 0\njump 11\nprogram 2 0\njump 12\n\
@@ -165,7 +192,7 @@ schedule 7 0*3\nschedule 6*100\nend\n";
 
 #[test]
 fn a_line_in_a_program_is_refused_with_its_cause(rt: HostRuntime) -> Result<(), Fail> {
-    let lines: [(&[u8], Why); 34] = [
+    let lines: [(&[u8], Why); 42] = [
         (b"exec", Why::MissingWord),
         (b"exec Rax", Why::BadNumber),
         (b"exec 18446744073709551616", Why::OutOfRange),
@@ -193,10 +220,18 @@ fn a_line_in_a_program_is_refused_with_its_cause(rt: HostRuntime) -> Result<(), 
         (b"jumpne Rax 0 18446744073709551616", Why::OutOfRange),
         (b"jumpne Rax 0 0 0", Why::ExtraWord),
         (b"jumpeq Rax 0 0", Why::UnknownWord),
+        (b"vtlcall 0", Why::ExtraWord),
+        (b"vtlreturn 1 1", Why::ExtraWord),
+        (b"VtlCall", Why::UnknownWord),
+        (b"vtlret", Why::UnknownWord),
         (b"set Rip 0", Why::BadName),
         (b"program 1 0", Why::Twice),
         (b"program 2 0", Why::OutOfRange),
-        (b"program 0 1", Why::OutOfRange),
+        (b"program 0 2", Why::OutOfRange),
+        (b"program 2 1", Why::OutOfRange),
+        (b"program 0", Why::MissingWord),
+        (b"program 0 one", Why::BadNumber),
+        (b"program 0 1 0", Why::ExtraWord),
         (b"schedule 0 1*2 2", Why::OutOfRange),
         (b"schedule 0 1! 1", Why::BadEntry),
         (b"vps 2", Why::OutOfOrder),
@@ -205,7 +240,15 @@ fn a_line_in_a_program_is_refused_with_its_cause(rt: HostRuntime) -> Result<(), 
         let answer = next_in_program(rt.alloc(), line);
         assert_eq!(rt; answer, Err(LineError::Refused(why)));
     }
-    let good: [&[u8]; 3] = [b"jumpne Rsp 0 0", b"program 0 0", b"schedule 0 1*2 1"];
+    let good: [&[u8]; 7] = [
+        b"jumpne Rsp 0 0",
+        b"vtlcall",
+        b"vtlreturn",
+        b"program 0 0",
+        b"program 0 1",
+        b"program 1 1",
+        b"schedule 0 1*2 1",
+    ];
     for line in good {
         assert_eq!(rt; next_in_program(rt.alloc(), line), Ok(()));
     }
@@ -272,7 +315,7 @@ fn a_script_is_refused_before_its_memory(rt: HostRuntime) -> Result<(), Fail> {
 
 #[test]
 fn a_body_is_refused_for_each_cause(rt: HostRuntime) -> Result<(), Fail> {
-    let bodies: [&[u8]; 35] = [
+    let bodies: [&[u8]; 38] = [
         b"",
         b"print\nend\n",
         b"mask 0 1\n\nend\n",
@@ -281,7 +324,9 @@ fn a_body_is_refused_for_each_cause(rt: HostRuntime) -> Result<(), Fail> {
         b"set Rax 0\nend\n",
         b"exec 0\nend\n",
         b"spin 0 0\nend\n",
+        b"vtlcall\nend\n",
         b"schedule 0\njump 0\nend\n",
+        b"schedule 0\nvtlreturn\nend\n",
         b"schedule 0\njumpne Rax 0 0\nend\n",
         b"schedule 0\nget Rax\nend\n",
         b"schedule 0\nmask 0 1\nend\n",
@@ -308,6 +353,7 @@ fn a_body_is_refused_for_each_cause(rt: HostRuntime) -> Result<(), Fail> {
         b"mask 0 1\nmask 0 3\nend\n",
         b"word 0 9 1\nword 1 9 1\nword 0 9 2\nend\n",
         b"program 0 0\nprogram 0 0\nend\n",
+        b"program 0 1\nvtlreturn\nprogram 0 0\nprogram 0 1\nend\n",
     ];
     for body in bodies {
         let text = with_head(rt.alloc(), body)?;
@@ -330,10 +376,12 @@ fn turns_and_pages_may_reach_their_limits(rt: HostRuntime) -> Result<(), Fail> {
 }
 
 #[test]
-fn a_program_may_reach_its_limit(rt: HostRuntime) -> Result<(), Fail> {
-    let script = read(rt.alloc(), &with_stores(rt.alloc(), 4096)?)?;
+fn the_program_of_each_level_may_reach_its_limit(rt: HostRuntime) -> Result<(), Fail> {
+    let script = read(rt.alloc(), &with_two_programs(rt.alloc(), 4096, 4096)?)?;
     let program = script.programs.as_slice().first();
     assert_eq!(rt; program.map(|p| p.zero.len()), Some(4096));
-    assert!(rt; is_refused(rt.alloc(), &with_stores(rt.alloc(), 4097)?));
+    assert_eq!(rt; program.map(|p| p.one.len()), Some(4096));
+    assert!(rt; is_refused(rt.alloc(), &with_two_programs(rt.alloc(), 4097, 0)?));
+    assert!(rt; is_refused(rt.alloc(), &with_two_programs(rt.alloc(), 0, 4097)?));
     Ok(())
 }

@@ -437,7 +437,54 @@ close\n\
 ",
 };
 
-pub const ALL: [Case; 14] = [
+pub const CALL_NOT_ENABLED: Case = Case {
+    name: "call not enabled",
+    script: b"\
+vsm 1\n\
+vps 1\n\
+pages 1\n\
+budget 10\n\
+started 1\n\
+program 0 0\n\
+vtlcall\n\
+schedule 0\n\
+end\n\
+",
+    status: Status::Ok,
+    text: b"\
+vsm-report 1 trace\n\
+0.0 0 vtlcall fault undefined\n\
+end 0 fault undefined\n\
+close\n\
+",
+};
+
+pub const RETURN_IN_LEVEL_0: Case = Case {
+    name: "return in level 0",
+    script: b"\
+vsm 1\n\
+vps 1\n\
+pages 1\n\
+budget 10\n\
+started 1\n\
+program 0 1\n\
+store 0 7\n\
+program 0 0\n\
+vtlreturn\n\
+store 8 7\n\
+schedule 0*5\n\
+end\n\
+",
+    status: Status::Ok,
+    text: b"\
+vsm-report 1 trace\n\
+0.0 0 vtlreturn fault undefined\n\
+end 0 fault undefined\n\
+close\n\
+",
+};
+
+pub const ALL: [Case; 16] = [
     EMPTY_PROGRAM,
     DENIED_STORE,
     LAST_WORD_AND_UNMAPPED,
@@ -452,4 +499,6 @@ pub const ALL: [Case; 14] = [
     SPIN_AGAIN,
     WALKED,
     EIGHT_ENDINGS,
+    CALL_NOT_ENABLED,
+    RETURN_IN_LEVEL_0,
 ];

@@ -32,6 +32,9 @@ const REGISTERS: &[u8] = b"vsm-report 1 trace\n\
 0.0 8 hypercall part 3\n\
 0.0 8 hypercall done 0x0000000000000006\n\
 0.0 9 vtlcall ok\n\
+0.0 9 vtlcall fault undefined\n\
+0.1 1 vtlreturn ok\n\
+0.1 1 vtlreturn fault undefined\n\
 0.0 10 poll ok\n\
 0.0 10 poll enter\n\
 0.0 11 eoi ok\n\
@@ -127,7 +130,7 @@ fn program(alloc: Global) -> Result<Program, AllocError> {
         Op::Ack(Name::Rbx),
         Op::Eom,
     ]?;
-    let one = vec![in alloc; Op::Store(Gva(4096), Operand::Number(5))]?;
+    let one = vec![in alloc; Op::Store(Gva(4096), Operand::Number(5)), Op::VtlReturn]?;
     Ok(Program {
         zero: Items::from_vec(zero),
         one: Items::from_vec(one),
@@ -264,7 +267,7 @@ fn add_failures(lines: &mut Items<Line>) -> Result<(), AllocError> {
     add(lines, Vtl::Zero, 0, &What::Fault(GuestFault::Align))?;
     add(lines, Vtl::Zero, 4, &What::Fault(GuestFault::Gp))?;
     add(lines, Vtl::Zero, 9, &What::Started)?;
-    add(lines, Vtl::One, 1, &What::Plain)
+    add(lines, Vtl::One, 2, &What::Plain)
 }
 
 fn add_registers(lines: &mut Items<Line>) -> Result<(), AllocError> {
@@ -282,6 +285,9 @@ fn add_others(lines: &mut Items<Line>) -> Result<(), AllocError> {
     add(lines, Vtl::Zero, 8, &What::Part(3))?;
     add(lines, Vtl::Zero, 8, &What::Reply(6))?;
     add(lines, Vtl::Zero, 9, &What::Plain)?;
+    add(lines, Vtl::Zero, 9, &What::Fault(GuestFault::Undefined))?;
+    add(lines, Vtl::One, 1, &What::Plain)?;
+    add(lines, Vtl::One, 1, &What::Fault(GuestFault::Undefined))?;
     add(lines, Vtl::Zero, 10, &What::Plain)?;
     add(lines, Vtl::Zero, 10, &What::Entered)?;
     add(lines, Vtl::Zero, 11, &What::Plain)?;
