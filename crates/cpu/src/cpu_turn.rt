@@ -4,18 +4,18 @@ ghost use Rattle.cpu.specs.Turns.{after_mark};
 
 use vsm_core::{Ending, What};
 
-/// What one turn of a processor came to.
+/// What one turn of a processor came to. The turns are this project's own.
 #[derive(Clone, Copy, Debug, PartialEq, Eq)]
 pub enum CpuTurn {
     /// It made a step, and its attempt goes on.
     Moved,
-    /// It hasn't started, and its start word was 0.
+    /// It hasn't started, and its start word was 0: nothing of it changed.
     Idle,
     /// It left a mark that stays.
     Attempt,
     /// It left the mark of a spin that found another value, which stands until its next turn.
     Again,
-    /// It runs no more.
+    /// It runs no more, for this reason.
     Ended(Ending),
 }
 

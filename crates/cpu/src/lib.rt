@@ -1,4 +1,4 @@
-//! One virtual processor.
+//! One virtual processor, a turn at a time.
 #![tactic(auto)]
 
 mod beginning;

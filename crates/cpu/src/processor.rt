@@ -24,7 +24,8 @@ use vsm_base::{Items, Limits, Memory, Name, Reserved, VpIndex, Vtl};
 use vsm_core::{Ending, Event, Grant, GuestFault, Mark, Op, PendingWord, Phase, Program, What};
 use vtl_state::{Levels, word_of};
 
-/// A virtual processor.
+/// A virtual processor: its registers, the operation that it is at, its marks and its events. Contracts see all of these
+/// as the definition has them. The operations, and the steps of their attempts, are this project's own.
 #[derive(Drop)]
 pub struct Cpu {
     vp: VpIndex,
@@ -68,7 +69,12 @@ fn operations<'a>(program: &'a Program, levels: &Levels) -> &'a [Op]
 }
 
 impl Cpu {
-    /// A processor before its first turn.
+    /// A processor before its first turn: level 0 is active, its program stands at its first operation, and all
+    /// registers are as at an opening. It takes room for as many marks as the budget says, which is 1 to 10,000, and
+    /// for 64 events each; its turns take no memory. Its number is below the count of processors.
+    ///
+    /// # Errors
+    /// `Memory` where there is no memory for that room, and for no other cause.
     #[tactic(auto, unfolding(vsm_core::specs::State::opening_state, vsm_core::specs::Processor::spin_limit))]
     pub fn new(
         alloc: Global,
@@ -269,19 +275,21 @@ impl Cpu {
         self.under = None;
         CpuTurn::Ended(Ending::Fault(fault))
     }
-    /// Makes at most one step at the processor's port.
+    /// Makes at most one step at the processor's port. It takes no memory.
     ///
-    /// A processor that has started makes the next step of the attempt of the operation where the active level's
-    /// program stands, and leaves a mark where the attempt has then come to its end. An attempt that has no step left
-    /// makes none. A spin that found another value leaves a mark that stands until the next turn, and so do its events
-    /// until the check of its next attempt; its 20,000,000th read in vain ends the processor, and nothing of it stays.
+    /// A processor that has started makes the next step of its attempt, which is of the operation where the active
+    /// level's program stands, and leaves a mark where the attempt has then come to its end. An attempt that has no
+    /// step left makes none. A mark has at most 13 events, and at most 12 where the access was denied.
     ///
-    /// A processor that hasn't started takes from its start word. Where that was 0 nothing changes. Starts can't be
-    /// served yet: at anything else it ends as at an undefined operation.
+    /// The mark of a spin that found another value stands until the next turn, and its events until the check of the
+    /// next attempt. Such a mark doesn't count for the budget. The 20,000,000th read of spins in vain ends the
+    /// processor, and neither mark nor events of it stay.
     ///
-    /// It needs that the processor has no ending, that the programs are those that it was made with, and a port that
-    /// is the processor's own and at which every step since it was made was one of its turns'. It takes no memory. The
-    /// order of an attempt's steps, and spins, are this project's own.
+    /// A processor that hasn't started takes from its start word. Where that was 0 nothing of the processor changes,
+    /// and the event isn't kept. Starts can't be served yet: at anything else it ends as at an undefined operation.
+    ///
+    /// It needs a processor without an ending, the programs that it was made with, and its own port, in the phase in
+    /// which its last turn left it. All this is this project's own.
     pub fn turn<P: Port>(&mut self, port: &mut P, program: &Program) -> CpuTurn
         requires going { self.old.ended ≡ None }
         requires zero { length program.now.zero ≡ self.old.zero_length }
@@ -304,7 +312,7 @@ impl Cpu {
         }
     }
 
-    /// The processor's number.
+    /// The processor's number. The attempt under way has at most 13 events.
     pub fn vp(&self) -> VpIndex
         ensures number { result.0 ≡ self.now.number }
         ensures below { self.now.number < self.now.limits.vps }

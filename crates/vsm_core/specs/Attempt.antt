@@ -1,4 +1,4 @@
--- The attempt of an operation. An operation that no script has yet is an undefined one.
+-- The attempt of an operation. An operation that isn't built yet is an undefined one.
 use Rattle.std.specs.Prelude.{ℕ, ◌==◌, ◌&&◌, Bool, true, false, if◌then◌else◌, List, [], ◌∷◌, Option, Some, None}
 use Rattle.vsm_base.specs.Masks.{need}
 use Rattle.vsm_base.specs.declared.name.Name.{Name}
