@@ -1,5 +1,7 @@
 -- How many steps an attempt has.
-use Rattle.std.proofs.Common.{◌≤◌, ◌+◌, ◌*◌, ◌==◌, ℕ, zero, suc, Bool, true, false, cond, nat_lt, Option, Some, None, List, [], ◌∷◌, ◌++◌, ◌≡◌, refl, arith}
+use Rattle.std.proofs.Common.{◌≤◌, ◌+◌, ◌*◌, ◌%◌, ◌^◌, ◌==◌, ◌&&◌, ℕ, zero, suc, Bool, true, false, cond, nat_lt, Option, Some, None, List, [], ◌∷◌, ◌++◌, length, ◌≡◌, refl, sym, ap, ◌∙◌, subst, arith}
+use Rattle.std.proofs.lemmas.List.{length-append}
+use Rattle.vsm_base.specs.declared.name.Name.TheVariants as names
 use Rattle.vsm_base.specs.Masks.{allows}
 use Rattle.vsm_base.specs.declared.places.Access.{Access}
 use Rattle.vsm_base.specs.declared.places.Access.TheVariants.{Read, Write, Execute}
@@ -7,19 +9,29 @@ use Rattle.vsm_base.specs.declared.places.Vtl.{Vtl}
 use Rattle.vsm_base.specs.declared.places.Vtl.TheVariants.{Zero, One}
 use Rattle.vsm_core.specs.declared.mark.Grant.{Grant}
 use Rattle.vsm_core.specs.declared.mark.GuestFault.{GuestFault}
-use Rattle.vsm_core.specs.declared.mark.GuestFault.TheVariants.{Unmapped, Page, Undefined}
+use Rattle.vsm_core.specs.declared.mark.GuestFault.TheVariants.{Unmapped, Page, Undefined, Gp}
 use Rattle.vsm_core.specs.declared.mark.What.{What}
-use Rattle.vsm_core.specs.declared.mark.What.TheVariants.{Granted, Again, Denied}
+use Rattle.vsm_core.specs.declared.mark.What.TheVariants.{Granted, Again, Denied, Value, Plain, Eom}
+use Rattle.vsm_core.specs.declared.mark.EomWord.{EomWord}
+use Rattle.vsm_core.specs.declared.mark.EomWord.TheVariants as eoms
+use Rattle.vsm_core.specs.declared.mark.Posted.{Posted}
+use Rattle.vsm_core.specs.declared.mark.Posted.TheVariants.{Slot, Waiting, Held}
+use Rattle.vsm_core.specs.declared.note.Note.{Note}
 use Rattle.vsm_core.specs.declared.operation.Op.{Op}
-use Rattle.vsm_core.specs.declared.operation.Op.TheVariants.{Load, Store, Exec, Spin, VtlCall, VtlReturn}
+use Rattle.vsm_core.specs.declared.operation.Op.TheVariants.{Set, Get, Load, Store, Exec, Spin, VtlCall, VtlReturn, Poll}
+use Rattle.vsm_core.specs.declared.operation.Op.TheVariants as ops
 use Rattle.vsm_core.specs.declared.request.Reply.{Reply}
-use Rattle.vsm_core.specs.Tree.{Tree, Ends, Asks, Wants, WordStep, then_, after, follow, Counts}
-use Rattle.vsm_core.specs.State.{State, gone_on, operand}
-use Rattle.vsm_core.specs.Fills.{Fill, Translation}
+use Rattle.vsm_core.specs.Tree.{Tree, Ends, Asks, Wants, WordStep, then_, asks_all, after, follow, Counts}
+use Rattle.vsm_core.specs.State.{State, gone_on, may_name, operand}
+use Rattle.vsm_core.specs.Fills.{Cached, Fill, Translation}
 use Rattle.vsm_core.specs.Walk.{Walked, Need, Mapped, Refused, walk}
 use Rattle.vsm_core.specs.Access.{Goal, Decision, Grants, Denies, Faults, data_step, covers, behind_mask, reaches, by_mask, at_page, entry_step, by_table_mask, at_table, tables, access, query_of, start_fault}
-use Rattle.vsm_core.specs.Switch.{may_call, may_return, called, assist_page, restored_from, by_call}
-use Rattle.vsm_core.specs.Attempt.{Outcome, attempt, by_access, begun, leaves, most_steps, most_steps_of, goal_of, loaded, passed, spun, enters, returns, faulted}
+use Rattle.vsm_core.specs.Switch.{may_call, may_return, may_enter, called, is_zero, assist_page, restored_from, by_call, by_interrupt}
+use Rattle.vsm_core.specs.Controllers.{Controllers, writes, rings, sint0_vector, message_steps, pending_steps, post_steps, eom_steps, message_page, has_none, is_open, eom_by}
+use Rattle.vsm_core.specs.Messages.{message_words, flagged, is_free}
+use Rattle.vsm_core.specs.Outcomes.{Origin, Outcome, Refusal, faulted, plain, outcome_at, loaded, passed, spun, note_of, held_outcome, denied_outcome, eom_outcome}
+use Rattle.vsm_core.specs.Registers.{is_legal, get as get_in}
+use Rattle.vsm_core.specs.Attempt.{attempt, by_access, begun, leaves, left_with, in_own_access, told_on, by_slot, posting, tells, refused, most_denied, most_steps, most_steps_of, goal_of, returns, is_wanted, polled_on, sends, eom_on}
 
 pub Counts-then_ : {A B : Type 0} (most : A → ℕ) (most_then : B → ℕ) (n : ℕ) (t : Tree A) (f : A → Tree B) → Counts most n t → ((m : ℕ) (a : A) → m ≤ most a → Counts most_then m (f a)) → Counts most_then n (then_ t f)
 Counts-then_ most most_then n (Ends a) f h g = g n a h
@@ -79,14 +91,84 @@ access-counts goal = λ x. λ generation. tables-counts 4 2 goal generation [] (
 abbrev IsNoDenial : (Grant → What × State) → Type 0
 IsNoDenial granted = (grant : Grant) → 13 ≤ most_steps_of (granted grant).0
 
-leaves-counts : (state : State) (granted : Grant → What × State) → IsNoDenial granted → (n : ℕ) (d : Decision) → n ≤ most_of d → Counts most_steps n (leaves state granted d)
-leaves-counts state granted never n (Grants grant fill) le = let h = never grant in λ x. omega arith
-leaves-counts state granted never n (Denies page mask generation kind gpa fill) le = λ x. omega arith
-leaves-counts state granted never n (Faults fault) le = λ x. omega arith
+-- so many steps, and then the rest
+asks_all-counts : {A : Type 0} (most : A → ℕ) (n : ℕ) (steps : List WordStep) (rest : Tree A) → Counts most (n + length steps) rest → Counts most n (asks_all steps rest)
+asks_all-counts most n [] rest h = subst (λ m. Counts most m rest) (omega arith) h
+asks_all-counts most n (s ∷ steps) rest h = λ x. asks_all-counts most (suc n) steps rest (subst (λ m. Counts most m rest) (omega arith) h)
 
-begun-counts : (state : State) (granted : Grant → What × State) (goal : Goal) (fault : Option GuestFault) → IsNoDenial granted → Counts most_steps 0 (begun state granted goal fault)
-begun-counts state granted goal (Some fault) never = omega arith
-begun-counts state granted goal None never = Counts-then_ most_of most_steps 0 (access goal) (leaves state granted) (access-counts goal) (leaves-counts state granted never)
+writes-length : (page index : ℕ) (words : List ℕ) → length (writes page index words) ≡ length words
+writes-length page index [] = refl
+writes-length page index (word ∷ words) = ap suc (writes-length page (suc index) words)
+
+rings-few : (number : ℕ) (vector : Option ℕ) → length (rings number vector) ≤ 1
+rings-few number None = omega arith
+rings-few number (Some vector) = omega arith
+
+told_on-few : (page : Option ℕ) (reason : ℕ) → length (told_on page reason) ≤ 1
+told_on-few None reason = omega arith
+told_on-few (Some page) reason = omega arith
+
+unfolding message_words
+  words-twelve : (note : Note) → length (message_words note) ≡ 12
+  words-twelve note = refl
+
+flagged-length : (more : Bool) (words : List ℕ) → length (flagged more words) ≡ length words
+flagged-length false words = refl
+flagged-length true [] = refl
+flagged-length true (word ∷ words) = refl
+
+message_steps-few : (number : ℕ) (state : State) (page : ℕ) (words : List ℕ) → length words ≡ 12 → length (message_steps number state page words) ≤ 13
+message_steps-few number state page words e =
+    let vector = sint0_vector (get_in state.registers One names.Sint0 % 2 ^ 64) in
+    let l = length-append (writes page 0 words) (rings number vector) in
+    let w = writes-length page 0 words in
+    let r = rings-few number vector in
+    omega (arith, l, w, r, e)
+
+few-cond : (b : Bool) (n : ℕ) (steps others : List WordStep) → length steps ≤ n → length others ≤ n → length (cond b steps others) ≤ n
+few-cond true n steps others h g = h
+few-cond false n steps others h g = g
+
+post_steps-few : (number : ℕ) (state : State) (page word : ℕ) (waiting : List Note) (note : Note) → length (post_steps number state page word waiting note) ≤ 13
+post_steps-few number state page word waiting note =
+    few-cond (is_free word) 13 _ (pending_steps page word) (few-cond (has_none waiting) 13 (message_steps number state page (message_words note)) [] (message_steps-few number state page (message_words note) (words-twelve note)) (omega arith)) (omega arith)
+
+posting-few : (from : Origin) (page : Option ℕ) (note : Note) (slot : Option ℕ) → length (posting from page note slot) ≤ 13
+posting-few from None note slot = omega arith
+posting-few from (Some page) note None = omega arith
+posting-few from (Some page) note (Some word) = post_steps-few from.number from.state page word from.controllers.waiting note
+
+told-most : (b : Bool) → most_denied (cond b Slot Waiting) ≡ 27
+told-most true = refl
+told-most false = refl
+
+tells-counts : (from : Origin) (r : Refusal) (note : Note) (does : List Cached) (slot : Option ℕ) (n : ℕ) → n ≤ 12 → Counts most_steps n (tells from r note does slot)
+tells-counts from r note does slot n le =
+    let steps = posting from (message_page from.pages from.state) note slot in
+    let told = told_on (assist_page from.pages from.state) by_interrupt in
+    let a = posting-few from (message_page from.pages from.state) note slot in
+    let b = told_on-few (assist_page from.pages from.state) by_interrupt in
+    let l = length-append steps told in
+    let most = told-most (is_open slot && has_none from.controllers.waiting) in
+    asks_all-counts most_steps n (steps ++ told) (left_with (denied_outcome from r note slot does)) (λ x. omega (arith, a, b, l, most, le))
+
+by_slot-counts : (page : Option ℕ) (n : ℕ) (more : Option ℕ → Tree Outcome) → ((slot : Option ℕ) (m : ℕ) → m ≤ suc n → Counts most_steps m (more slot)) → Counts most_steps n (by_slot page more)
+by_slot-counts None n more h = h None n (omega arith)
+by_slot-counts (Some page) n more h = λ word. h (Some word) (suc n) (omega arith)
+
+refused-counts : (from : Origin) (gva : Option ℕ) (r : Refusal) (does : List Cached) (n : ℕ) → n ≤ 11 → Counts most_steps n (refused from gva r does)
+refused-counts from gva r does n le =
+    Counts-cond most_steps n (may_enter from.state) (by_slot (message_page from.pages from.state) (tells from r (note_of from gva r) does)) (left_with (held_outcome from r does))
+    (by_slot-counts (message_page from.pages from.state) n (tells from r (note_of from gva r) does) (λ slot m few. tells-counts from r (note_of from gva r) does slot m (omega (arith, few, le)))) (λ x. omega arith)
+
+leaves-counts : (from : Origin) (gva : ℕ) (granted : Grant → What × State) → IsNoDenial granted → (n : ℕ) (d : Decision) → n ≤ most_of d → Counts most_steps n (leaves from gva granted d)
+leaves-counts from gva granted never n (Grants grant fill) le = let h = never grant in λ x. omega arith
+leaves-counts from gva granted never n (Denies page mask generation kind gpa fill) le = refused-counts from (Some gva) _ _ n le
+leaves-counts from gva granted never n (Faults fault) le = λ x. omega arith
+
+begun-counts : (from : Origin) (granted : Grant → What × State) (goal : Goal) (fault : Option GuestFault) → IsNoDenial granted → Counts most_steps 0 (begun from granted goal fault)
+begun-counts from granted goal (Some fault) never = omega arith
+begun-counts from granted goal None never = Counts-then_ most_of most_steps 0 (access goal) (leaves from goal.gva granted) (access-counts goal) (leaves-counts from goal.gva granted never)
 
 abbrev spin_end : Bool → State → State → Grant → What × State
 spin_end b state now grant = cond b (Granted grant, now) (Again grant, state)
@@ -95,25 +177,66 @@ spun-no : (b : Bool) (state now : State) (grant : Grant) → 13 ≤ most_steps_o
 spun-no true state now grant = omega arith
 spun-no false state now grant = omega arith
 
-by_access-counts : (state : State) (granted : Grant → What × State) (goal : Goal) → IsNoDenial granted → Counts most_steps 0 (by_access state granted goal)
-by_access-counts state granted goal never = begun-counts state granted goal (start_fault goal) never
+by_access-counts : (from : Origin) (granted : Grant → What × State) (goal : Goal) → IsNoDenial granted → Counts most_steps 0 (by_access from granted goal)
+by_access-counts from granted goal never = begun-counts from granted goal (start_fault goal) never
 
-enters-counts : (page : Option ℕ) (reason : ℕ) (state : State) → Counts most_steps 0 (enters page reason state)
-enters-counts None reason state = omega arith
-enters-counts (Some page) reason state = λ a. λ b. λ c. λ d. omega arith
+-- at most one word in an access of its own
+told-counts : (page : Option ℕ) (reason n : ℕ) (o : Outcome) → n + 4 ≤ most_steps o → Counts most_steps n (in_own_access (told_on page reason) o)
+told-counts None reason n o le = omega arith
+told-counts (Some page) reason n o le = λ a. λ b. λ c. λ d. omega arith
 
-returns-counts : (page : Option ℕ) (state : State) → Counts most_steps 0 (returns page state)
-returns-counts None state = omega arith
-returns-counts (Some page) state = λ a. λ b. λ c. λ d. λ e. omega arith
+returns-counts : (from : Origin) (page : Option ℕ) → Counts most_steps 0 (returns from page)
+returns-counts from None = omega arith
+returns-counts from (Some page) = λ a. λ b. λ c. λ d. λ e. omega arith
 
-pub attempt-counts : (pages : ℕ) (state : State) (op : Op) → Counts most_steps 0 (attempt pages state op)
-attempt-counts pages state (Load name gva) = by_access-counts state (loaded state name) (goal_of pages state Read true gva.0 0) (λ grant. omega arith)
-attempt-counts pages state (Store gva what) = by_access-counts state (passed state) (goal_of pages state Write true gva.0 (operand state what)) (λ grant. omega arith)
-attempt-counts pages state (Exec gva) = by_access-counts state (passed state) (goal_of pages state Execute false gva.0 0) (λ grant. omega arith)
-attempt-counts pages state (Spin gva value) = by_access-counts state (spun state value) (goal_of pages state Read true gva.0 0) (λ grant. spun-no (grant.value == value) state (gone_on state) grant)
-attempt-counts pages state VtlCall = Counts-cond most_steps 0 (may_call state) (enters (assist_page pages state) by_call (called state)) (Ends (faulted state Undefined)) (enters-counts (assist_page pages state) by_call (called state)) (omega arith)
-attempt-counts pages state VtlReturn = Counts-cond most_steps 0 (may_return state) (returns (restored_from pages state) state) (Ends (faulted state Undefined)) (returns-counts (restored_from pages state) state) (omega arith)
-attempt-counts pages state _ = omega arith
+polled_on-counts : (from : Origin) (controllers : Controllers) → Counts most_steps 8 (polled_on from controllers)
+polled_on-counts from controllers =
+    Counts-cond most_steps 8 (may_enter from.state && is_wanted from.state controllers) (in_own_access (told_on (assist_page from.pages from.state) by_interrupt) _) (Ends _)
+    (told-counts (assist_page from.pages from.state) by_interrupt 8 _ (omega arith)) (omega arith)
+
+eom_steps-few : (number : ℕ) (state : State) (page word : ℕ) (note : Note) (more : List Note) → length (eom_steps number state page word note more) ≤ 13
+eom_steps-few number state page word note more =
+    let words = flagged (cond (has_none more) false true) (message_words note) in
+    few-cond (is_free word) 13 (message_steps number state page words) (pending_steps page word) (message_steps-few number state page words (flagged-length (cond (has_none more) false true) (message_words note) ∙ words-twelve note)) (omega arith)
+
+most_steps-eom : (b : Bool) (from : Origin) (word : EomWord) (state : State) (o : Outcome) → o.what ≡ Eom word → most_steps (cond b (outcome_at from (Eom eoms.Nothing) state []) o) ≡ 17
+most_steps-eom true from word state o e = refl
+most_steps-eom false from word state o e = ap most_steps_of e
+
+eom_outcome-most : (from : Origin) (slot : Option ℕ) → most_steps (eom_outcome from slot) ≡ 17
+eom_outcome-most from slot = most_steps-eom (is_zero from.state.active) from (eom_by slot from.controllers.waiting) (gone_on from.state) _ refl
+
+sends-counts : (from : Origin) (page : ℕ) (note : Note) (more : List Note) (word : ℕ) → Counts most_steps 3 (sends from page note more word)
+sends-counts from page note more word =
+    let steps = eom_steps from.number from.state page word note more in
+    let few = eom_steps-few from.number from.state page word note more in
+    let most = eom_outcome-most from (Some word) in
+    asks_all-counts most_steps 3 steps (left_with (eom_outcome from (Some word))) (λ x. omega (arith, few, most))
+
+eom_on-counts : (from : Origin) (page : Option ℕ) (waiting : List Note) → Counts most_steps 0 (eom_on from page waiting)
+eom_on-counts from None waiting = omega arith
+eom_on-counts from (Some page) [] = omega arith
+eom_on-counts from (Some page) (note ∷ more) = λ a. λ b. λ word. sends-counts from page note more word
+
+-- registers are set and got with no step at all
+set-counts : (b : Bool) (from : Origin) (state : State) (does : List Cached) → Counts most_steps 0 (Ends (cond b (outcome_at from Plain state does) (faulted from Gp)))
+set-counts b from state does = omega arith
+
+get-counts : (b : Bool) (from : Origin) (value : ℕ) (state : State) → Counts most_steps 0 (Ends (cond b (outcome_at from (Value value) state []) (faulted from Gp)))
+get-counts b from value state = omega arith
+
+pub attempt-counts : (from : Origin) (op : Op) → Counts most_steps 0 (attempt from op)
+attempt-counts from (Load name gva) = by_access-counts from (loaded from.state name) (goal_of from.pages from.state Read true gva.0 0) (λ grant. omega arith)
+attempt-counts from (Store gva what) = by_access-counts from (passed from.state) (goal_of from.pages from.state Write true gva.0 (operand from.state what)) (λ grant. omega arith)
+attempt-counts from (Exec gva) = by_access-counts from (passed from.state) (goal_of from.pages from.state Execute false gva.0 0) (λ grant. omega arith)
+attempt-counts from (Spin gva value) = by_access-counts from (spun from.state value) (goal_of from.pages from.state Read true gva.0 0) (λ grant. spun-no (grant.value == value) from.state (gone_on from.state) grant)
+attempt-counts from VtlCall = Counts-cond most_steps 0 (may_call from.state) (in_own_access (told_on (assist_page from.pages from.state) by_call) (plain from (called from.state))) (Ends (faulted from Undefined)) (told-counts (assist_page from.pages from.state) by_call 0 _ (omega arith)) (omega arith)
+attempt-counts from VtlReturn = Counts-cond most_steps 0 (may_return from.state) (returns from (restored_from from.pages from.state)) (Ends (faulted from Undefined)) (returns-counts from (restored_from from.pages from.state)) (omega arith)
+attempt-counts from Poll = λ a. λ b. λ c. λ d. λ e. λ f. λ g. λ h. polled_on-counts from _
+attempt-counts from ops.Eom = Counts-cond most_steps 0 (is_zero from.state.active) (Ends (eom_outcome from None)) (eom_on from (message_page from.pages from.state) from.controllers.waiting) (let most = eom_outcome-most from None in omega (arith, most)) (eom_on-counts from (message_page from.pages from.state) from.controllers.waiting)
+attempt-counts from (Set name value) = set-counts (may_name from.state name && is_legal name value) from _ _
+attempt-counts from (Get name) = get-counts (may_name from.state name) from _ _
+attempt-counts from _ = omega arith
 
 follow-Ends : {A : Type 0} (a : A) (xs : List ℕ) → follow (Ends a) xs ≡ Ends a
 follow-Ends a [] = refl
@@ -134,8 +257,11 @@ Counts-most most b reply n (Ends a) le h = let l = le a in omega arith
 Counts-most most b reply n (Asks s k) le h = let l = Counts-most most b reply (suc n) (k 0) le (h 0) in omega arith
 Counts-most most b reply n (Wants q k) le h = Counts-most most b reply n (k reply) le (h reply)
 
-pub most_steps-few : (o : Outcome) → most_steps o ≤ 13
+pub most_steps-few : (o : Outcome) → most_steps o ≤ 27
 most_steps-few o = few o.what where
-  few : (what : What) → most_steps_of what ≤ 13
-  few (Denied denial) = omega arith
+  few_denied : (posted : Posted) → most_denied posted ≤ 27
+  few_denied Held = omega arith
+  few_denied _ = omega arith
+  few : (what : What) → most_steps_of what ≤ 27
+  few (Denied denial) = few_denied denial.posted
   few _ = omega arith

@@ -13,6 +13,8 @@ use Rattle.vsm_core.specs.Tree.{Tree, Ends, Asks, Wants, WordStep, Entering, Che
 use Rattle.vsm_core.specs.declared.operation.Op.{Op}
 use Rattle.vsm_core.specs.State.{State}
 use Rattle.vsm_core.specs.Attempt.{attempt}
+use Rattle.vsm_core.specs.Controllers.{Controllers}
+use Rattle.vsm_core.specs.Outcomes.{origin_in}
 use Rattle.vsm_core.specs.Steps.{MayStep, IsPending, IsVectors, phase_of, made}
 use Rattle.vsm_core.specs.Sound.{Sound, IsOver}
 use Rattle.vsm_core.specs.Whole.{Flat, Stop, later, run_on, answer_in, flat_after, with_posted, memory_place, posted_place}
@@ -104,7 +106,7 @@ same_stop {A} Q limits p es (Asks s k) words flat low sound h =
     let r = same_stop Q limits p (made s x ∷ es) (k x) (words_by limits p words s) (flat_after limits p flat s) low (sound.1 x) (still_holds limits p es s words flat low sound.0 h) in
     subst (λ y. SameStop limits (later (made s x) (steps_on limits p (words_by limits p words s) (k x))) (later (made s y) (run_on limits p (flat_after limits p flat s) (k y)))) e (same_later limits (made s x) _ _ r)
 
-pub attempt-same : (limits : Limits) (p : ℕ) (state : State) (op : Op) (words : List ℕ) (flat : Flat) → p < limits.vps → Holds limits words flat
-    → SameStop limits (steps_on limits p words (attempt limits.pages state op)) (run_on limits p flat (attempt limits.pages state op))
-attempt-same limits p state op words flat low h =
-    same_stop IsOver limits p [] (attempt limits.pages state op) words flat low (attempt-sound limits state op [] refl) h
+pub attempt-same : (limits : Limits) (p : ℕ) (state : State) (controllers : Controllers) (op : Op) (words : List ℕ) (flat : Flat) → p < limits.vps → Holds limits words flat
+    → SameStop limits (steps_on limits p words (attempt (origin_in limits p state controllers) op)) (run_on limits p flat (attempt (origin_in limits p state controllers) op))
+attempt-same limits p state controllers op words flat low h =
+    same_stop IsOver limits p [] (attempt (origin_in limits p state controllers) op) words flat low (attempt-sound limits p state controllers op [] low refl) h

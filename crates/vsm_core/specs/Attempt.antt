@@ -1,59 +1,87 @@
 -- The attempt of an operation. An operation that isn't built yet is an undefined one.
-use Rattle.std.specs.Prelude.{ℕ, ◌==◌, ◌&&◌, Bool, true, false, if◌then◌else◌, List, [], ◌∷◌, Option, Some, None}
+use Rattle.std.specs.Prelude.{ℕ, ◌+◌, ◌%◌, ◌^◌, ◌&&◌, Bool, true, false, if◌then◌else◌, is_some, List, [], ◌∷◌, ◌++◌, Option, Some, None}
 use Rattle.vsm_base.specs.Masks.{need}
-use Rattle.vsm_base.specs.declared.name.Name.{Name}
 use Rattle.vsm_base.specs.declared.name.Name.TheVariants as names
 use Rattle.vsm_base.specs.declared.places.Access.{Access}
 use Rattle.vsm_base.specs.declared.places.Access.TheVariants.{Read, Write, Execute}
-use Rattle.vsm_base.specs.declared.places.Vtl.{Vtl}
+use Rattle.vsm_base.specs.declared.places.Vtl.TheVariants.{One}
 use Rattle.vsm_core.specs.declared.mark.Grant.{Grant}
 use Rattle.vsm_core.specs.declared.mark.GuestFault.{GuestFault}
-use Rattle.vsm_core.specs.declared.mark.GuestFault.TheVariants.{Undefined, Gp}
-use Rattle.vsm_core.specs.declared.mark.What.{What}
-use Rattle.vsm_core.specs.declared.mark.What.TheVariants.{Granted, Again, Denied, Fault, Value, Plain}
+use Rattle.vsm_core.specs.declared.mark.GuestFault.TheVariants.{Undefined}
+use Rattle.vsm_core.specs.declared.mark.Posted.{Posted}
 use Rattle.vsm_core.specs.declared.mark.Posted.TheVariants.{Held}
+use Rattle.vsm_core.specs.declared.mark.What.{What}
+use Rattle.vsm_core.specs.declared.mark.What.TheVariants.{Denied, Entered, Plain, Eom}
+use Rattle.vsm_core.specs.declared.note.Note.{Note}
 use Rattle.vsm_core.specs.declared.operation.Op.{Op}
-use Rattle.vsm_core.specs.declared.operation.Op.TheVariants.{Set, Get, Load, Store, Exec, Spin, Jump, JumpNe, VtlCall, VtlReturn}
-use Rattle.vsm_core.specs.Fills.{Fill, Cached, Filled, Emptied}
-use Rattle.vsm_core.specs.Registers.{is_legal}
-use Rattle.vsm_core.specs.State.{State, get, put, put_legal, gone_to, gone_on, word_of, privilege_of, may_name, operand}
-use Rattle.vsm_core.specs.Switch.{may_call, may_return, called, returned, assist_page, restored_from, reason_index, rax_index, rcx_index, by_call, entry_word}
-use Rattle.vsm_core.specs.Tree.{Tree, Ends, Asks, Entering, Checking, Reading, Writing, Leaving, then_}
+use Rattle.vsm_core.specs.declared.operation.Op.TheVariants.{Set, Get, Load, Store, Exec, Spin, Jump, JumpNe, VtlCall, VtlReturn, Poll, Ack, Eoi} 
+use Rattle.vsm_core.specs.declared.operation.Op.TheVariants as ops
 use Rattle.vsm_core.specs.Access.{Goal, Decision, Grants, Denies, Faults, access, start_fault}
-
--- what an attempt came to, the state after it, and what it did to the cached translations
-pub record Outcome : Type 0 where
-  pub what : What
-  pub state : State
-  pub does : List Cached
-
--- a guest fault changes nothing
-abbrev pub faulted : State → GuestFault → Outcome
-faulted state fault = record { what = Fault fault; state = state; does = [] }
-
-abbrev pub fills : Vtl → Option Fill → List Cached
-fills level None = []
-fills level (Some fill) = Filled level fill ∷ []
-
--- an access comes to its end: where it was granted, to what the operation makes of the grant
-abbrev pub outcome_of : State → (Grant → What × State) → Decision → Outcome
-outcome_of state granted (Grants grant fill) = record { what = (granted grant).0; state = (granted grant).1; does = fills state.active fill }
-outcome_of state granted (Denies page mask generation kind gpa fill) =
-    record { what = Denied (record { page = record { 0 = page }; mask = mask; generation = generation; access = kind; posted = Held }); state = state; does = fills state.active fill }
-outcome_of state granted (Faults fault) = faulted state fault
+use Rattle.vsm_core.specs.Controllers.{Controllers, message_page, message_steps, post_steps, eom_steps, vector_words, with_taken}
+use Rattle.vsm_core.specs.Fills.{Cached}
+use Rattle.vsm_core.specs.Outcomes.{Origin, Outcome, Refusal, faulted, plain, outcome_at, fills, loaded, passed, spun, set_outcome, get_outcome, jumped, note_of, held_outcome, denied_outcome, ack_outcome, eoi_outcome, eom_outcome}
+use Rattle.vsm_core.specs.Registers.{get as get_in}
+use Rattle.vsm_core.specs.State.{State, gone_to, gone_on, word_of, privilege_of, operand}
+use Rattle.vsm_core.specs.Switch.{may_call, may_return, may_enter, called, returned, entered, is_zero, assist_page, restored_from, reason_index, rax_index, rcx_index, by_call, by_interrupt, entry_word}
+use Rattle.vsm_core.specs.Tree.{Tree, Ends, Asks, WordStep, Entering, Checking, Reading, Writing, Leaving, then_, asks_all, takes}
+use Rattle.vsm_core.specs.Vectors.{deliverable}
 
 -- an access that has begun ends by its leave
-abbrev pub leaves : State → (Grant → What × State) → Decision → Tree Outcome
-leaves state granted decision = Asks Leaving (λ _. Ends (outcome_of state granted decision))
+abbrev pub left_with : Outcome → Tree Outcome
+left_with o = Asks Leaving (λ _. Ends o)
+
+-- memory words are touched in an access of their own: it is entered and checked before
+abbrev pub in_access : {A : Type 0} → Tree A → Tree A
+in_access tree = Asks Entering (λ _. Asks Checking (λ _. tree))
+
+-- these steps in an access of their own, where there are any
+abbrev pub in_own_access : List WordStep → Outcome → Tree Outcome
+in_own_access [] o = Ends o
+in_own_access (s ∷ steps) o = in_access (asks_all (s ∷ steps) (left_with o))
+
+-- the assist page is told why level 1 is entered, where that page is on
+abbrev pub told_on : Option ℕ → ℕ → List WordStep
+told_on None reason = []
+told_on (Some page) reason = Writing page reason_index (entry_word reason) ∷ []
+
+-- it goes on by the first word of the message slot, where the slot's page is on
+abbrev pub by_slot : Option ℕ → (Option ℕ → Tree Outcome) → Tree Outcome
+by_slot None more = more None
+by_slot (Some page) more = Asks (Reading page 0) (λ word. more (Some word))
+
+-- the steps of a new note's message, where the slot has this first word, if it is there
+abbrev pub posting : Origin → Option ℕ → Note → Option ℕ → List WordStep
+posting from None note slot = []
+posting from (Some page) note None = []
+posting from (Some page) note (Some word) = post_steps from.number from.state page word from.controllers.waiting note
+
+-- level 1 is told of a denied access and entered, and then the access is left
+abbrev pub tells : Origin → Refusal → Note → List Cached → Option ℕ → Tree Outcome
+tells from r note does slot =
+    asks_all (posting from (message_page from.pages from.state) note slot ++ told_on (assist_page from.pages from.state) by_interrupt)
+    (left_with (denied_outcome from r note slot does))
+
+-- an access is denied: level 1, where the processor has it, learns of it
+abbrev pub refused : Origin → Option ℕ → Refusal → List Cached → Tree Outcome
+refused from gva r does =
+    if may_enter from.state then by_slot (message_page from.pages from.state) (tells from r (note_of from gva r) does)
+    else left_with (held_outcome from r does)
+
+-- an access comes to its end: where it was granted, to what the operation makes of the grant
+abbrev pub leaves : Origin → ℕ → (Grant → What × State) → Decision → Tree Outcome
+leaves from gva granted (Grants grant fill) = left_with (outcome_at from (granted grant).0 (granted grant).1 (fills from.state.active fill))
+leaves from gva granted (Denies page mask generation kind gpa fill) =
+    refused from (Some gva) (record { page = page; mask = mask; generation = generation; access = kind; gpa = gpa }) (fills from.state.active fill)
+leaves from gva granted (Faults fault) = left_with (faulted from fault)
 
 -- an access with no first step is a fault
-abbrev pub begun : State → (Grant → What × State) → Goal → Option GuestFault → Tree Outcome
-begun state granted goal (Some fault) = Ends (faulted state fault)
-begun state granted goal None = then_ (access goal) (leaves state granted)
+abbrev pub begun : Origin → (Grant → What × State) → Goal → Option GuestFault → Tree Outcome
+begun from granted goal (Some fault) = Ends (faulted from fault)
+begun from granted goal None = then_ (access goal) (leaves from goal.gva granted)
 
 -- an operation that makes one access
-abbrev pub by_access : State → (Grant → What × State) → Goal → Tree Outcome
-by_access state granted goal = begun state granted goal (start_fault goal)
+abbrev pub by_access : Origin → (Grant → What × State) → Goal → Tree Outcome
+by_access from granted goal = begun from granted goal (start_fault goal)
 
 -- the access to an address that an operation of the active level asks for
 abbrev pub goal_of : ℕ → State → Access → Bool → ℕ → ℕ → Goal
@@ -70,81 +98,75 @@ goal_of pages state kind aligned gva value = record {
   pages = pages;
 }
 
--- a load keeps the word that it read
-abbrev pub loaded : State → Name → Grant → What × State
-loaded state name grant = (Granted grant, gone_on (put_legal state name grant.value))
-
-abbrev pub passed : State → Grant → What × State
-passed state grant = (Granted grant, gone_on state)
-
--- a spin that found another value stays where it is
-abbrev pub spun : State → ℕ → Grant → What × State
-spun state value grant = if grant.value == value then passed state grant else (Again grant, state)
-
--- a write of a control register that paging reads empties the level's translations
-abbrev pub empties : Vtl → Name → List Cached
-empties level names.Cr0 = Emptied level ∷ []
-empties level names.Cr3 = Emptied level ∷ []
-empties level names.Cr4 = Emptied level ∷ []
-empties level _ = []
-
--- a register is written, if it may be named here and takes this value
-abbrev pub set_outcome : State → Name → ℕ → Outcome
-set_outcome state name value =
-    if may_name state name && is_legal name value then record { what = Plain; state = gone_on (put state name value); does = empties state.active name } else faulted state Gp
-
--- a register is read, if it may be named here
-abbrev pub get_outcome : State → Name → Outcome
-get_outcome state name = if may_name state name then record { what = Value (get state name); state = gone_on state; does = [] } else faulted state Gp
-
--- the program goes on in this state
-abbrev pub plain : State → Outcome
-plain state = record { what = Plain; state = state; does = [] }
-
-abbrev pub jumped : State → Name → ℕ → ℕ → State
-jumped state name value rip = if word_of state name == value then gone_on state else gone_to state rip
-
--- memory words are touched in an access of their own: it is entered and checked before
-abbrev pub in_access : {A : Type 0} → Tree A → Tree A
-in_access tree = Asks Entering (λ _. Asks Checking (λ _. tree))
-
--- and left after
-abbrev pub left_with : State → Tree Outcome
-left_with state = Asks Leaving (λ _. Ends (plain state))
-
--- level 1 is entered in this state: the reason is told on the assist page, where that is on
-abbrev pub enters : Option ℕ → ℕ → State → Tree Outcome
-enters None reason state = Ends (plain state)
-enters (Some page) reason state = in_access (Asks (Writing page reason_index (entry_word reason)) (λ _. left_with state))
+abbrev pub call_tree : Origin → Tree Outcome
+call_tree from =
+    if may_call from.state then in_own_access (told_on (assist_page from.pages from.state) by_call) (plain from (called from.state))
+    else Ends (faulted from Undefined)
 
 -- level 0 is returned to: RAX and RCX are taken from this page, where there is one
-abbrev pub returns : Option ℕ → State → Tree Outcome
-returns None state = Ends (plain (returned state None))
-returns (Some page) state = in_access (Asks (Reading page rax_index) (λ rax. Asks (Reading page rcx_index) (λ rcx. left_with (returned state (Some (rax, rcx))))))
+abbrev pub returns : Origin → Option ℕ → Tree Outcome
+returns from None = Ends (plain from (returned from.state None))
+returns from (Some page) =
+    in_access (Asks (Reading page rax_index) (λ rax. Asks (Reading page rcx_index) (λ rcx. left_with (plain from (returned from.state (Some (rax, rcx)))))))
 
-abbrev pub call_tree : ℕ → State → Tree Outcome
-call_tree pages state = if may_call state then enters (assist_page pages state) by_call (called state) else Ends (faulted state Undefined)
+abbrev pub return_tree : Origin → Tree Outcome
+return_tree from = if may_return from.state then returns from (restored_from from.pages from.state) else Ends (faulted from Undefined)
 
-abbrev pub return_tree : ℕ → State → Tree Outcome
-return_tree pages state = if may_return state then returns (restored_from pages state) state else Ends (faulted state Undefined)
+-- level 1 has a vector that is delivered next
+abbrev pub is_wanted : State → Controllers → Bool
+is_wanted state controllers = is_some (deliverable controllers.one (get_in state.registers One names.Cr8 % 2 ^ 64))
 
--- the whole attempt of an operation on so many pages, from this state on
-abbrev pub attempt : ℕ → State → Op → Tree Outcome
-attempt pages state (Set name value) = Ends (set_outcome state name value)
-attempt pages state (Get name) = Ends (get_outcome state name)
-attempt pages state (Load name gva) = by_access state (loaded state name) (goal_of pages state Read true gva.0 0)
-attempt pages state (Store gva what) = by_access state (passed state) (goal_of pages state Write true gva.0 (operand state what))
-attempt pages state (Exec gva) = by_access state (passed state) (goal_of pages state Execute false gva.0 0)
-attempt pages state (Spin gva value) = by_access state (spun state value) (goal_of pages state Read true gva.0 0)
-attempt pages state (Jump rip) = Ends (plain (gone_to state rip))
-attempt pages state (JumpNe name value rip) = Ends (plain (jumped state name value rip))
-attempt pages state VtlCall = call_tree pages state
-attempt pages state VtlReturn = return_tree pages state
-attempt pages state _ = Ends (faulted state Undefined)
+-- a poll enters level 1 from level 0 where that has a deliverable vector
+abbrev pub polled_on : Origin → Controllers → Tree Outcome
+polled_on from controllers =
+    if may_enter from.state && is_wanted from.state controllers
+    then in_own_access (told_on (assist_page from.pages from.state) by_interrupt) (record { what = Entered; state = entered (gone_on from.state); controllers = controllers; does = [] })
+    else Ends (record { what = Plain; state = gone_on from.state; controllers = controllers; does = [] })
+
+-- what is left of a poll that has found this in all words of pending vectors
+abbrev pub polled : Origin → List ℕ → Tree Outcome
+polled from found = polled_on from (with_taken from.controllers found)
+
+-- the oldest note's message goes to the slot, or is said to wait, by the slot's first word
+abbrev pub sends : Origin → ℕ → Note → List Note → ℕ → Tree Outcome
+sends from page note more word = asks_all (eom_steps from.number from.state page word note more) (left_with (eom_outcome from (Some word)))
+
+abbrev pub eom_on : Origin → Option ℕ → List Note → Tree Outcome
+eom_on from None waiting = Ends (eom_outcome from None)
+eom_on from (Some page) [] = Ends (eom_outcome from None)
+eom_on from (Some page) (note ∷ more) = in_access (Asks (Reading page 0) (sends from page note more))
+
+abbrev pub eom_tree : Origin → Tree Outcome
+eom_tree from =
+    if is_zero from.state.active then Ends (eom_outcome from None) else eom_on from (message_page from.pages from.state) from.controllers.waiting
+
+-- the whole attempt of an operation
+abbrev pub attempt : Origin → Op → Tree Outcome
+attempt from (Set name value) = Ends (set_outcome from name value)
+attempt from (Get name) = Ends (get_outcome from name)
+attempt from (Load name gva) = by_access from (loaded from.state name) (goal_of from.pages from.state Read true gva.0 0)
+attempt from (Store gva what) = by_access from (passed from.state) (goal_of from.pages from.state Write true gva.0 (operand from.state what))
+attempt from (Exec gva) = by_access from (passed from.state) (goal_of from.pages from.state Execute false gva.0 0)
+attempt from (Spin gva value) = by_access from (spun from.state value) (goal_of from.pages from.state Read true gva.0 0)
+attempt from (Jump rip) = Ends (plain from (gone_to from.state rip))
+attempt from (JumpNe name value rip) = Ends (plain from (jumped from.state name value rip))
+attempt from VtlCall = call_tree from
+attempt from VtlReturn = return_tree from
+attempt from Poll = takes vector_words [] (polled from)
+attempt from (Ack name) = Ends (ack_outcome from name)
+attempt from Eoi = Ends (eoi_outcome from)
+attempt from ops.Eom = eom_tree from
+attempt from _ = Ends (faulted from Undefined)
+
+-- how many steps a denial may have: level 1, where it learns of it, takes at most fifteen more
+abbrev pub most_denied : Posted → ℕ
+most_denied Held = 12
+most_denied _ = 27
 
 -- how many steps an attempt may have that came to this
 abbrev pub most_steps_of : What → ℕ
-most_steps_of (Denied denial) = 12
+most_steps_of (Denied denial) = most_denied denial.posted
+most_steps_of (Eom word) = 17
 most_steps_of _ = 13
 
 abbrev pub most_steps : Outcome → ℕ

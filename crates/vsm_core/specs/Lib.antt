@@ -1,6 +1,9 @@
 pub mod Access
 pub mod Attempt
+pub mod Controllers
 pub mod Fills
+pub mod Messages
+pub mod Outcomes
 pub mod Processor
 pub mod Registers
 pub mod Seat
@@ -11,6 +14,7 @@ pub mod Steps
 pub mod Switch
 pub mod Tree
 pub mod Turns
+pub mod Vectors
 pub mod Walk
 pub mod Whole
 pub mod Words

@@ -18,10 +18,12 @@ use Rattle.vsm_core.specs.declared.operation.Program.{Program}
 use Rattle.vsm_core.specs.State.{State, rip_of, opening_state}
 use Rattle.vsm_core.specs.Steps.{learned}
 use Rattle.vsm_core.specs.Tree.{Tree, Ends, Asks, Wants, follow}
-use Rattle.vsm_core.specs.Attempt.{Outcome, attempt, faulted, most_steps_of}
+use Rattle.vsm_core.specs.Attempt.{attempt, most_steps_of}
+use Rattle.vsm_core.specs.Controllers.{Controllers, opening_controllers}
+use Rattle.vsm_core.specs.Outcomes.{Origin, Outcome, faulted, origin_in}
 use Rattle.vsm_core.specs.Whole.{Flat, Stop, run_on}
 
--- a processor: what it was made with, its state, the operation that it keeps on with, what it has left, and its ending.
+-- a processor: what it was made with, its state, what its interrupt controllers hold, the operation that it keeps on with, what it has left, and its ending.
 -- The events of the attempt under way are those seen from `first` on. The events from `part` to `first` are of a spin's
 -- last attempt that found another value. Its mark is the last one as long as `again` holds
 pub record Vp : Type 0 where
@@ -31,6 +33,7 @@ pub record Vp : Type 0 where
   pub one_length : ℕ
   pub started : Bool
   pub state : State
+  pub controllers : Controllers
   pub op : Option Op
   pub marks : List Mark
   pub seen : List Event
@@ -95,6 +98,7 @@ opening number limits started zero_length one_length = record {
   one_length = one_length;
   started = started;
   state = opening_state;
+  controllers = opening_controllers;
   op = None;
   marks = [];
   seen = [];
@@ -130,6 +134,7 @@ mark_of v what = record { level = v.state.active; rip = rip_of v.state; what = w
 abbrev pub marked : Vp → Outcome → Vp
 marked v o = record v {
   state = o.state;
+  controllers = o.controllers;
   op = None;
   marks = standing v ++ mark_of v o.what ∷ [];
   part = length v.seen;
@@ -174,9 +179,13 @@ settled (Ends o) v = came_to o.what v o
 settled (Asks s k) v = v
 settled (Wants q k) v = v
 
-abbrev pub tree_of : ℕ → State → Option Op → Tree Outcome
-tree_of pages state None = Ends (faulted state Undefined)
-tree_of pages state (Some op) = attempt pages state op
+-- what an attempt of the processor begins with
+abbrev pub origin_of : Vp → Origin
+origin_of v = origin_in v.limits v.number v.state v.controllers
+
+abbrev pub tree_of : Origin → Option Op → Tree Outcome
+tree_of from None = Ends (faulted from Undefined)
+tree_of from (Some op) = attempt from op
 
 -- the answers that the attempt under way has had
 abbrev pub answers_of : List Event → ℕ → List ℕ
@@ -184,7 +193,7 @@ answers_of seen first = map learned (drop first seen)
 
 -- what is left of the attempt of this operation
 abbrev pub rest_of : Vp → Option Op → Tree Outcome
-rest_of v op = follow (tree_of v.limits.pages v.state op) (answers_of v.seen v.first)
+rest_of v op = follow (tree_of (origin_of v) op) (answers_of v.seen v.first)
 
 -- the processor after these events and at this place of its attempt
 abbrev pub stopped_at : Option Op → Vp → List Event → Tree Outcome → Vp
@@ -201,7 +210,7 @@ did_stop op v stop = record { vp = stopped_at op v stop.events stop.at; words = 
 -- the whole attempt of the operation where its program stands, at once
 unfoldable pub attempted : Program → Vp → Flat → Did Flat
 attempted program v flat =
-    did_stop (operation_at program v.state) v (run_on v.limits v.number flat (tree_of v.limits.pages v.state (operation_at program v.state)))
+    did_stop (operation_at program v.state) v (run_on v.limits v.number flat (tree_of (origin_of v) (operation_at program v.state)))
 
 -- the marks that a processor has left since it was so
 abbrev pub new_marks : Vp → Vp → List Mark

@@ -5,7 +5,7 @@ use Rattle.vsm_core.specs.declared.event.Event.{Event}
 use Rattle.vsm_core.specs.declared.event.Phase.TheVariants.{Idle}
 use Rattle.vsm_core.specs.declared.request.Reply.{Reply}
 use Rattle.vsm_core.specs.Tree.{Tree, Ends, Asks, Wants}
-use Rattle.vsm_core.specs.Attempt.{Outcome}
+use Rattle.vsm_core.specs.Outcomes.{Outcome}
 use Rattle.vsm_core.specs.Steps.{MayStep, made, phase_of}
 
 -- after these events each step of the tree may be made where it is asked, a request is made between two accesses alone, and Q holds at each end

@@ -1,5 +1,5 @@
 -- What is left of an attempt, as a tree.
-use Rattle.std.specs.Prelude.{ℕ, suc, ◌≤◌, List, [], ◌∷◌}
+use Rattle.std.specs.Prelude.{ℕ, suc, ◌≤◌, List, [], ◌∷◌, ◌++◌}
 use Rattle.vsm_core.specs.declared.event.PendingWord.{PendingWord}
 use Rattle.vsm_core.specs.declared.request.Request.{Request}
 use Rattle.vsm_core.specs.declared.request.Reply.{Reply}
@@ -38,6 +38,16 @@ after (Wants q k) x = Wants q k
 abbrev pub follow : {A : Type 0} → Tree A → List ℕ → Tree A
 follow t [] = t
 follow t (x ∷ xs) = follow (after t x) xs
+
+-- these steps, which teach nothing, and then the rest
+abbrev pub asks_all : {A : Type 0} → List WordStep → Tree A → Tree A
+asks_all [] rest = rest
+asks_all (s ∷ steps) rest = Asks s (λ _. asks_all steps rest)
+
+-- these words are taken from, and then it goes on by what they held, after what was found before
+abbrev pub takes : {A : Type 0} → List PendingWord → List ℕ → (List ℕ → Tree A) → Tree A
+takes [] found rest = rest found
+takes (word ∷ words) found rest = Asks (Taking word) (λ x. takes words (found ++ x ∷ []) rest)
 
 -- whatever is answered, each end comes after no more steps than it may have; so many have been made already
 abbrev pub Counts : {A : Type 0} → (A → ℕ) → ℕ → Tree A → Type 0
