@@ -1,5 +1,5 @@
 -- How many steps an attempt has.
-use Rattle.std.proofs.Common.{◌≤◌, ◌+◌, ◌*◌, ◌%◌, ◌^◌, ◌==◌, ◌&&◌, ℕ, zero, suc, Bool, true, false, cond, nat_lt, Option, Some, None, List, [], ◌∷◌, ◌++◌, length, ◌≡◌, refl, sym, ap, ◌∙◌, subst, arith}
+use Rattle.std.proofs.Common.{◌≤◌, ◌+◌, ◌*◌, ◌%◌, ◌^◌, ◌==◌, ◌&&◌, ℕ, zero, suc, Bool, true, false, cond, nat_lt, Option, Some, None, List, [], ◌∷◌, ◌++◌, length, ◌≡◌, refl, ap, ◌∙◌, subst, arith}
 use Rattle.std.proofs.lemmas.List.{length-append}
 use Rattle.vsm_base.specs.declared.name.Name.TheVariants as names
 use Rattle.vsm_base.specs.Masks.{allows}
@@ -108,11 +108,11 @@ told_on-few : (page : Option ℕ) (reason : ℕ) → length (told_on page reason
 told_on-few None reason = omega arith
 told_on-few (Some page) reason = omega arith
 
+pub words-twelve : (note : Note) → length (message_words note) ≡ 12
 unfolding message_words
-  words-twelve : (note : Note) → length (message_words note) ≡ 12
-  words-twelve note = refl
+words-twelve note = refl
 
-flagged-length : (more : Bool) (words : List ℕ) → length (flagged more words) ≡ length words
+pub flagged-length : (more : Bool) (words : List ℕ) → length (flagged more words) ≡ length words
 flagged-length false words = refl
 flagged-length true [] = refl
 flagged-length true (word ∷ words) = refl
@@ -262,6 +262,7 @@ most_steps-few o = few o.what where
   few_denied : (posted : Posted) → most_denied posted ≤ 27
   few_denied Held = omega arith
   few_denied _ = omega arith
+
   few : (what : What) → most_steps_of what ≤ 27
   few (Denied denial) = few_denied denial.posted
   few _ = omega arith

@@ -1,5 +1,5 @@
 -- An attempt asks only what may be asked.
-use Rattle.std.proofs.Common.{◌≡◌, ◌≢◌, ◌<◌, ℕ, zero, suc, Bool, true, false, cond, nat_lt, Option, Some, None, List, [], ◌∷◌, ◌++◌, refl, subst, arith, ◌%◌, ◌/◌, ◌^◌, ◌==◌, ◌&&◌}
+use Rattle.std.proofs.Common.{◌≡◌, ◌≢◌, ◌<◌, ◌≤◌, ◌+◌, nat_le, length, ◌∙◌, ℕ, zero, suc, Bool, true, false, cond, nat_lt, Option, Some, None, List, [], ◌∷◌, ◌++◌, refl, subst, arith, ◌%◌, ◌/◌, ◌^◌, ◌==◌, ◌&&◌}
 use Rattle.std.specs.List.{list_all}
 use Rattle.std.proofs.lemmas.Bool.Decides.{nat_tests}
 use Rattle.vsm_base.specs.Masks.{allows}
@@ -12,20 +12,26 @@ use Rattle.vsm_core.specs.declared.event.Event.{Event}
 use Rattle.vsm_core.specs.declared.event.Phase.TheVariants.{Idle}
 use Rattle.vsm_core.specs.declared.mark.Grant.{Grant}
 use Rattle.vsm_core.specs.declared.mark.GuestFault.{GuestFault}
-use Rattle.vsm_core.specs.declared.mark.GuestFault.TheVariants.{Unmapped, Page, Undefined}
+use Rattle.vsm_core.specs.declared.mark.GuestFault.TheVariants.{Unmapped, Page}
 use Rattle.vsm_core.specs.declared.mark.What.{What}
 use Rattle.vsm_core.specs.declared.operation.Op.{Op}
-use Rattle.vsm_core.specs.declared.operation.Op.TheVariants.{Load, Store, Exec, Spin, VtlCall, VtlReturn}
-use Rattle.vsm_core.specs.Tree.{Tree, Ends, Asks, Wants, then_}
+use Rattle.vsm_core.specs.declared.operation.Op.TheVariants.{Load, Store, Exec, Spin, VtlCall, VtlReturn, Poll}
+use Rattle.vsm_core.specs.declared.operation.Op.TheVariants as ops
+use Rattle.vsm_core.specs.declared.note.Note.{Note}
+use Rattle.vsm_core.specs.Tree.{Tree, Ends, Asks, Wants, WordStep, Writing, Posting, then_, asks_all, takes}
 use Rattle.vsm_core.specs.State.{State, operand}
-use Rattle.vsm_core.specs.Steps.{IsIn, phase_of}
-use Rattle.vsm_core.specs.Fills.{Fill, Translation}
+use Rattle.vsm_core.specs.Steps.{IsIn, IsVectors, MayStep, made, phase_of}
+use Rattle.vsm_core.specs.Fills.{Cached, Fill, Translation}
 use Rattle.vsm_core.specs.Walk.{Query, Walked, Need, Mapped, Refused, walk, paged, of_entries, is_paging, is_canonical, is_present, is_right}
-use Rattle.vsm_core.specs.Access.{Goal, Decision, Denies, Faults, data_step, covers, behind_mask, reaches, by_mask, at_page, entry_step, by_table_mask, at_table, tables, access, query_of, start_fault}
+use Rattle.vsm_core.specs.Access.{Goal, Decision, Grants, Denies, Faults, data_step, covers, behind_mask, reaches, by_mask, at_page, entry_step, by_table_mask, at_table, tables, access, query_of, start_fault}
 use Rattle.vsm_core.specs.Registers.{get as get_in}
 use Rattle.vsm_base.specs.declared.name.Name.TheVariants as names
-use Rattle.vsm_core.specs.Switch.{may_call, may_return, called, is_fast, page_if, assist_page, restored_from, by_call}
-use Rattle.vsm_core.specs.Attempt.{attempt, by_access, begun, leaves, goal_of, loaded, passed, spun, enters, returns, faulted}
+use Rattle.vsm_core.specs.Switch.{may_call, may_return, may_enter, is_zero, is_fast, page_if, page_named, assist_page, restored_from, by_call, by_interrupt}
+use Rattle.vsm_core.specs.Controllers.{Controllers, message_page, message_steps, post_steps, eom_steps, pending_steps, writes, rings, sint0_vector, has_none, vector_words, with_taken}
+use Rattle.vsm_core.specs.Messages.{message_words, flagged, is_free}
+use Rattle.vsm_core.specs.Outcomes.{Origin, Outcome, Refusal, origin_in, outcome_at, faulted, fills, loaded, passed, spun, note_of, held_outcome, denied_outcome, eom_outcome}
+use Rattle.vsm_core.specs.Attempt.{attempt, by_access, begun, leaves, left_with, in_own_access, told_on, by_slot, posting, tells, refused, goal_of, returns, is_wanted, polled_on, polled, sends, eom_on}
+use Rattle.vsm_core.proofs.Bounds.{words-twelve, flagged-length}
 use Rattle.vsm_core.specs.Sound.{Sound, IsOver}
 
 -- first the one, and then what its end says
@@ -105,17 +111,6 @@ module _ (limits : Limits) (goal : Goal) (same : goal.pages ≡ limits.pages) wh
   access-sound : (es : List Event) → phase_of es ≡ Idle → Sound limits IsInside es (access goal)
   access-sound es idle = (idle, λ x. (refl, λ generation. tables-sound 4 _ generation [] tt))
 
-  inside-ne : (es : List Event) → IsIn (phase_of es) → phase_of es ≢ Idle
-  inside-ne es inside e = subst IsIn e inside
-
-  begun-sound : (es : List Event) (state : State) (granted : Grant → What × State) (fault : Option GuestFault) → phase_of es ≡ Idle → Sound limits IsOver es (begun state granted goal fault)
-  begun-sound es state granted (Some fault) idle = idle
-  begun-sound es state granted None idle =
-      Sound-then_ limits IsInside IsOver es (access goal) (leaves state granted) (access-sound es idle) (λ fs d inside. (inside-ne fs inside, λ x. refl))
-
-  by_access-sound : (es : List Event) (state : State) (granted : Grant → What × State) → phase_of es ≡ Idle → Sound limits IsOver es (by_access state granted goal)
-  by_access-sound es state granted idle = begun-sound es state granted (start_fault goal) idle
-
 -- a page that is named is one of those that there are
 abbrev IsThere : ℕ → Option ℕ → Type 0
 IsThere pages None = Unit {0}
@@ -129,30 +124,175 @@ and-second : (a b : Bool) → (a && b) ≡ true → b ≡ true
 and-second true b e = e
 and-second false b e = cc
 
-assist-there : (pages : ℕ) (state : State) → IsThere pages (assist_page pages state)
-assist-there pages state =
-    let word : ℕ = get_in state.registers One names.VpAssistPage % 2 ^ 64 in
+named-there : (pages word : ℕ) → IsThere pages (page_named pages word)
+named-there pages word =
     page_if-there ((word % 2 == 1) && nat_lt (word / 4096) pages) pages (word / 4096) (λ e. let low = and-second (word % 2 == 1) (nat_lt (word / 4096) pages) e in grind (arith, nat_tests))
+
+assist-there : (pages : ℕ) (state : State) → IsThere pages (assist_page pages state)
+assist-there pages state = named-there pages (get_in state.registers One names.VpAssistPage % 2 ^ 64)
 
 unless-there : (b : Bool) (pages : ℕ) (page : Option ℕ) → IsThere pages page → IsThere pages (cond b None page)
 unless-there true pages page h = tt
 unless-there false pages page h = h
 
-enters-sound : (limits : Limits) (page : Option ℕ) (reason : ℕ) (state : State) (es : List Event) → IsThere limits.pages page → phase_of es ≡ Idle → Sound limits IsOver es (enters page reason state)
-enters-sound limits None reason state es low idle = idle
-enters-sound limits (Some page) reason state es low idle = (idle, λ a. (refl, λ b. ((tt, low, omega arith), λ c. ((λ e. cc), λ d. refl))))
+if-there : (b : Bool) (pages : ℕ) (page : Option ℕ) → IsThere pages page → IsThere pages (cond b page None)
+if-there true pages page h = h
+if-there false pages page h = tt
 
-returns-sound : (limits : Limits) (page : Option ℕ) (state : State) (es : List Event) → IsThere limits.pages page → phase_of es ≡ Idle → Sound limits IsOver es (returns page state)
-returns-sound limits None state es low idle = idle
-returns-sound limits (Some page) state es low idle = (idle, λ a. (refl, λ b. ((tt, low, omega arith), λ c. ((tt, low, omega arith), λ d. ((λ e. cc), λ f. refl)))))
+message-there : (pages : ℕ) (state : State) → IsThere pages (message_page pages state)
+message-there pages state =
+    let simp : ℕ = get_in state.registers One names.Simp % 2 ^ 64 in
+    if-there (get_in state.registers One names.Scontrol % 2 == 1) pages (page_named pages simp) (named-there pages simp)
 
-pub attempt-sound : (limits : Limits) (state : State) (op : Op) (es : List Event) → phase_of es ≡ Idle → Sound limits IsOver es (attempt limits.pages state op)
-attempt-sound limits state (Load name gva) es idle = by_access-sound limits (goal_of limits.pages state Read true gva.0 0) refl es state (loaded state name) idle
-attempt-sound limits state (Store gva what) es idle = by_access-sound limits (goal_of limits.pages state Write true gva.0 (operand state what)) refl es state (passed state) idle
-attempt-sound limits state (Exec gva) es idle = by_access-sound limits (goal_of limits.pages state Execute false gva.0 0) refl es state (passed state) idle
-attempt-sound limits state (Spin gva value) es idle = by_access-sound limits (goal_of limits.pages state Read true gva.0 0) refl es state (spun state value) idle
-attempt-sound limits state VtlCall es idle =
-    Sound-cond limits IsOver es (may_call state) (enters (assist_page limits.pages state) by_call (called state)) (Ends (faulted state Undefined)) (λ _. enters-sound limits (assist_page limits.pages state) by_call (called state) es (assist-there limits.pages state) idle) idle
-attempt-sound limits state VtlReturn es idle =
-    Sound-cond limits IsOver es (may_return state) (returns (restored_from limits.pages state) state) (Ends (faulted state Undefined)) (λ _. returns-sound limits (restored_from limits.pages state) state es (unless-there (is_fast state) limits.pages (assist_page limits.pages state) (assist-there limits.pages state)) idle) idle
-attempt-sound limits state _ es idle = idle
+-- each of these steps may be made where a generation was checked, and that stays so
+abbrev IsQuiet : Limits → WordStep → Type 0
+IsQuiet limits (Writing page index value) = (page < limits.pages) × (index < 512)
+IsQuiet limits (Posting vp word bits) = (vp < limits.vps) × IsVectors word
+IsQuiet limits _ = ⊥
+
+abbrev AreQuiet : Limits → List WordStep → Type 0
+AreQuiet limits [] = Unit {0}
+AreQuiet limits (s ∷ steps) = IsQuiet limits s × AreQuiet limits steps
+
+quiet-may : (limits : Limits) (s : WordStep) (es : List Event) → IsQuiet limits s → IsIn (phase_of es) → MayStep limits (phase_of es) s
+quiet-may limits (Writing page index value) es is inside = (inside, is.0, is.1)
+quiet-may limits (Posting vp word bits) es is inside = is
+quiet-may limits _ es is inside = elim is [ ]
+
+quiet-inside : (limits : Limits) (s : WordStep) (x : ℕ) (es : List Event) → IsQuiet limits s → IsIn (phase_of es) → IsIn (phase_of (made s x ∷ es))
+quiet-inside limits (Writing page index value) x es is inside = inside
+quiet-inside limits (Posting vp word bits) x es is inside = inside
+quiet-inside limits _ x es is inside = elim is [ ]
+
+asks_all-sound : {A : Type 0} (limits : Limits) (Q : List Event → A → Type 0) (es : List Event) (steps : List WordStep) (rest : Tree A) → AreQuiet limits steps → IsIn (phase_of es) → ((fs : List Event) → IsIn (phase_of fs) → Sound limits Q fs rest) → Sound limits Q es (asks_all steps rest)
+asks_all-sound limits Q es [] rest quiet inside h = h es inside
+asks_all-sound limits Q es (s ∷ steps) rest quiet inside h =
+    (quiet-may limits s es quiet.0 inside, λ x. asks_all-sound limits Q _ steps rest quiet.1 (quiet-inside limits s x es quiet.0 inside) h)
+
+quiet-append : (limits : Limits) (steps more : List WordStep) → AreQuiet limits steps → AreQuiet limits more → AreQuiet limits (steps ++ more)
+quiet-append limits [] more h g = g
+quiet-append limits (s ∷ steps) more h g = (h.0, quiet-append limits steps more h.1 g)
+
+quiet-cond : (limits : Limits) (b : Bool) (steps others : List WordStep) → AreQuiet limits steps → AreQuiet limits others → AreQuiet limits (cond b steps others)
+quiet-cond limits true steps others h g = h
+quiet-cond limits false steps others h g = g
+
+writes-quiet : (limits : Limits) (page index : ℕ) (words : List ℕ) → page < limits.pages → index + length words ≤ 512 → AreQuiet limits (writes page index words)
+writes-quiet limits page index [] low le = tt
+writes-quiet limits page index (word ∷ words) low le = ((low, omega arith), writes-quiet limits page (suc index) words low (omega arith))
+
+told_on-quiet : (limits : Limits) (page : Option ℕ) (reason : ℕ) → IsThere limits.pages page → AreQuiet limits (told_on page reason)
+told_on-quiet limits None reason low = tt
+told_on-quiet limits (Some page) reason low = ((low, omega arith), tt)
+
+-- the vectors that there are
+abbrev IsVector : Option ℕ → Type 0
+IsVector None = Unit {0}
+IsVector (Some vector) = vector < 256
+
+vector-cond : (b : Bool) (vector : ℕ) → vector < 256 → IsVector (cond b (Some vector) None)
+vector-cond true vector h = h
+vector-cond false vector h = tt
+
+rings-quiet : (limits : Limits) (number : ℕ) (vector : Option ℕ) → number < limits.vps → IsVector vector → AreQuiet limits (rings number vector)
+rings-quiet limits number None low is = tt
+rings-quiet limits number (Some vector) low is = ((low, omega arith), tt)
+
+message_steps-quiet : (limits : Limits) (number : ℕ) (state : State) (page : ℕ) (words : List ℕ) → number < limits.vps → page < limits.pages → length words ≡ 12 → AreQuiet limits (message_steps number state page words)
+message_steps-quiet limits number state page words low there e =
+    let sint : ℕ = get_in state.registers One names.Sint0 % 2 ^ 64 in
+    quiet-append limits (writes page 0 words) (rings number (sint0_vector sint)) (writes-quiet limits page 0 words there (omega arith))
+    (rings-quiet limits number (sint0_vector sint) low (vector-cond ((sint / 2 ^ 16 % 2 == 0) && nat_le 16 (sint % 256)) (sint % 256) (omega arith)))
+
+module _ (limits : Limits) (number : ℕ) (state : State) (controllers : Controllers) (low : number < limits.vps) where
+  abbrev from : Origin
+  from = origin_in limits number state controllers
+
+  inside-ne : (es : List Event) → IsIn (phase_of es) → phase_of es ≢ Idle
+  inside-ne es inside e = subst IsIn e inside
+
+  left-sound : (es : List Event) (o : Outcome) → IsIn (phase_of es) → Sound limits IsOver es (left_with o)
+  left-sound es o inside = (inside-ne es inside, λ x. refl)
+
+  post_steps-quiet : (page word : ℕ) (note : Note) → page < limits.pages → AreQuiet limits (post_steps number state page word controllers.waiting note)
+  post_steps-quiet page word note there =
+      quiet-cond limits (is_free word) _ (pending_steps page word) (quiet-cond limits (has_none controllers.waiting) (message_steps number state page (message_words note)) [] (message_steps-quiet limits number state page (message_words note) low there (words-twelve note)) tt) ((there, omega arith), tt)
+
+  posting-quiet : (page : Option ℕ) (note : Note) (slot : Option ℕ) → IsThere limits.pages page → AreQuiet limits (posting from page note slot)
+  posting-quiet None note slot there = tt
+  posting-quiet (Some page) note None there = tt
+  posting-quiet (Some page) note (Some word) there = post_steps-quiet page word note there
+
+  by_slot-sound : (es : List Event) (page : Option ℕ) (more : Option ℕ → Tree Outcome) → IsThere limits.pages page → IsIn (phase_of es) → ((fs : List Event) (slot : Option ℕ) → IsIn (phase_of fs) → Sound limits IsOver fs (more slot)) → Sound limits IsOver es (by_slot page more)
+  by_slot-sound es None more there inside h = h es None inside
+  by_slot-sound es (Some page) more there inside h = ((inside, there, omega arith), λ word. h _ (Some word) inside)
+
+  tells-sound : (es : List Event) (r : Refusal) (note : Note) (does : List Cached) (slot : Option ℕ) → IsIn (phase_of es) → Sound limits IsOver es (tells from r note does slot)
+  tells-sound es r note does slot inside =
+      asks_all-sound limits IsOver es (posting from (message_page limits.pages state) note slot ++ told_on (assist_page limits.pages state) by_interrupt) (left_with (denied_outcome from r note slot does))
+      (quiet-append limits (posting from (message_page limits.pages state) note slot) (told_on (assist_page limits.pages state) by_interrupt) (posting-quiet (message_page limits.pages state) note slot (message-there limits.pages state)) (told_on-quiet limits (assist_page limits.pages state) by_interrupt (assist-there limits.pages state)))
+      inside (λ fs within. left-sound fs (denied_outcome from r note slot does) within)
+
+  refused-sound : (es : List Event) (gva : Option ℕ) (r : Refusal) (does : List Cached) → IsIn (phase_of es) → Sound limits IsOver es (refused from gva r does)
+  refused-sound es gva r does inside =
+      Sound-cond limits IsOver es (may_enter state) (by_slot (message_page limits.pages state) (tells from r (note_of from gva r) does)) (left_with (held_outcome from r does))
+      (λ _. by_slot-sound es (message_page limits.pages state) (tells from r (note_of from gva r) does) (message-there limits.pages state) inside (λ fs slot within. tells-sound fs r (note_of from gva r) does slot within)) (left-sound es (held_outcome from r does) inside)
+
+  leaves-sound : (gva : ℕ) (granted : Grant → What × State) (es : List Event) (d : Decision) → IsIn (phase_of es) → Sound limits IsOver es (leaves from gva granted d)
+  leaves-sound gva granted es (Grants grant fill) inside = left-sound es (outcome_at from (granted grant).0 (granted grant).1 (fills state.active fill)) inside
+  leaves-sound gva granted es (Denies page mask generation kind gpa fill) inside = refused-sound es (Some gva) _ _ inside
+  leaves-sound gva granted es (Faults fault) inside = left-sound es (faulted from fault) inside
+
+  begun-sound : (goal : Goal) → goal.pages ≡ limits.pages → (es : List Event) (granted : Grant → What × State) (fault : Option GuestFault) → phase_of es ≡ Idle → Sound limits IsOver es (begun from granted goal fault)
+  begun-sound goal same es granted (Some fault) idle = idle
+  begun-sound goal same es granted None idle =
+      Sound-then_ limits IsInside IsOver es (access goal) (leaves from goal.gva granted) (access-sound limits goal same es idle) (λ fs d inside. leaves-sound goal.gva granted fs d inside)
+
+  by_access-sound : (goal : Goal) → goal.pages ≡ limits.pages → (es : List Event) (granted : Grant → What × State) → phase_of es ≡ Idle → Sound limits IsOver es (by_access from granted goal)
+  by_access-sound goal same es granted idle = begun-sound goal same es granted (start_fault goal) idle
+
+  told-sound : (es : List Event) (page : Option ℕ) (reason : ℕ) (o : Outcome) → IsThere limits.pages page → phase_of es ≡ Idle → Sound limits IsOver es (in_own_access (told_on page reason) o)
+  told-sound es None reason o there idle = idle
+  told-sound es (Some page) reason o there idle = (idle, λ a. (refl, λ b. ((tt, there, omega arith), λ c. ((λ e. cc), λ d. refl))))
+
+  returns-sound : (es : List Event) (page : Option ℕ) → IsThere limits.pages page → phase_of es ≡ Idle → Sound limits IsOver es (returns from page)
+  returns-sound es None there idle = idle
+  returns-sound es (Some page) there idle = (idle, λ a. (refl, λ b. ((tt, there, omega arith), λ c. ((tt, there, omega arith), λ d. ((λ e. cc), λ f. refl)))))
+
+  polled_on-sound : (es : List Event) (after : Controllers) → phase_of es ≡ Idle → Sound limits IsOver es (polled_on from after)
+  polled_on-sound es after idle =
+      Sound-cond limits IsOver es (may_enter state && is_wanted state after) (in_own_access (told_on (assist_page limits.pages state) by_interrupt) _) (Ends _)
+      (λ _. told-sound es (assist_page limits.pages state) by_interrupt _ (assist-there limits.pages state) idle) idle
+
+  sends-sound : (es : List Event) (page word : ℕ) (note : Note) (more : List Note) → page < limits.pages → IsIn (phase_of es) → Sound limits IsOver es (sends from page note more word)
+  sends-sound es page word note more there inside =
+      let words = flagged (cond (has_none more) false true) (message_words note) in
+      asks_all-sound limits IsOver es (eom_steps number state page word note more) (left_with (eom_outcome from (Some word)))
+      (quiet-cond limits (is_free word) (message_steps number state page words) (pending_steps page word) (message_steps-quiet limits number state page words low there (flagged-length (cond (has_none more) false true) (message_words note) ∙ words-twelve note)) ((there, omega arith), tt))
+      inside (λ fs within. left-sound fs (eom_outcome from (Some word)) within)
+
+  eom_on-sound : (es : List Event) (page : Option ℕ) (waiting : List Note) → IsThere limits.pages page → phase_of es ≡ Idle → Sound limits IsOver es (eom_on from page waiting)
+  eom_on-sound es None waiting there idle = idle
+  eom_on-sound es (Some page) [] there idle = idle
+  eom_on-sound es (Some page) (note ∷ more) there idle =
+      (idle, λ a. (refl, λ b. ((tt, there, omega arith), λ word. sends-sound _ page word note more there tt)))
+
+-- whatever was found in words of pending vectors
+polls-sound : (limits : Limits) (es : List Event) (rest : List ℕ → Tree Outcome) → ((fs : List Event) (found : List ℕ) → phase_of fs ≡ Idle → Sound limits IsOver fs (rest found)) → phase_of es ≡ Idle → Sound limits IsOver es (takes vector_words [] rest)
+polls-sound limits es rest h idle =
+    (omega arith, λ a. (omega arith, λ b. (omega arith, λ c. (omega arith, λ d. (omega arith, λ e. (omega arith, λ f. (omega arith, λ g. (omega arith, λ i. h _ _ idle))))))))
+
+pub attempt-sound : (limits : Limits) (number : ℕ) (state : State) (controllers : Controllers) (op : Op) (es : List Event) → number < limits.vps → phase_of es ≡ Idle → Sound limits IsOver es (attempt (origin_in limits number state controllers) op)
+attempt-sound limits number state controllers (Load name gva) es low idle = by_access-sound limits number state controllers low (goal_of limits.pages state Read true gva.0 0) refl es (loaded state name) idle
+attempt-sound limits number state controllers (Store gva what) es low idle = by_access-sound limits number state controllers low (goal_of limits.pages state Write true gva.0 (operand state what)) refl es (passed state) idle
+attempt-sound limits number state controllers (Exec gva) es low idle = by_access-sound limits number state controllers low (goal_of limits.pages state Execute false gva.0 0) refl es (passed state) idle
+attempt-sound limits number state controllers (Spin gva value) es low idle = by_access-sound limits number state controllers low (goal_of limits.pages state Read true gva.0 0) refl es (spun state value) idle
+attempt-sound limits number state controllers VtlCall es low idle =
+    Sound-cond limits IsOver es (may_call state) (in_own_access (told_on (assist_page limits.pages state) by_call) _) (Ends _) (λ _. told-sound limits number state controllers low es (assist_page limits.pages state) by_call _ (assist-there limits.pages state) idle) idle
+attempt-sound limits number state controllers VtlReturn es low idle =
+    Sound-cond limits IsOver es (may_return state) (returns (origin_in limits number state controllers) (restored_from limits.pages state)) (Ends _) (λ _. returns-sound limits number state controllers low es (restored_from limits.pages state) (unless-there (is_fast state) limits.pages (assist_page limits.pages state) (assist-there limits.pages state)) idle) idle
+attempt-sound limits number state controllers Poll es low idle =
+    polls-sound limits es (polled (origin_in limits number state controllers)) (λ fs found over. polled_on-sound limits number state controllers low fs (with_taken controllers found) over) idle
+attempt-sound limits number state controllers ops.Eom es low idle =
+    Sound-cond limits IsOver es (is_zero state.active) (Ends _) (eom_on (origin_in limits number state controllers) (message_page limits.pages state) controllers.waiting) (λ _. idle) (eom_on-sound limits number state controllers low es (message_page limits.pages state) controllers.waiting (message-there limits.pages state) idle)
+attempt-sound limits number state controllers _ es low idle = idle

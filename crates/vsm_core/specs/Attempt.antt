@@ -1,5 +1,5 @@
 -- The attempt of an operation. An operation that isn't built yet is an undefined one.
-use Rattle.std.specs.Prelude.{ℕ, ◌+◌, ◌%◌, ◌^◌, ◌&&◌, Bool, true, false, if◌then◌else◌, is_some, List, [], ◌∷◌, ◌++◌, Option, Some, None}
+use Rattle.std.specs.Prelude.{ℕ, ◌%◌, ◌^◌, ◌&&◌, Bool, true, false, if◌then◌else◌, is_some, List, [], ◌∷◌, ◌++◌, Option, Some, None}
 use Rattle.vsm_base.specs.Masks.{need}
 use Rattle.vsm_base.specs.declared.name.Name.TheVariants as names
 use Rattle.vsm_base.specs.declared.places.Access.{Access}
@@ -14,10 +14,10 @@ use Rattle.vsm_core.specs.declared.mark.What.{What}
 use Rattle.vsm_core.specs.declared.mark.What.TheVariants.{Denied, Entered, Plain, Eom}
 use Rattle.vsm_core.specs.declared.note.Note.{Note}
 use Rattle.vsm_core.specs.declared.operation.Op.{Op}
-use Rattle.vsm_core.specs.declared.operation.Op.TheVariants.{Set, Get, Load, Store, Exec, Spin, Jump, JumpNe, VtlCall, VtlReturn, Poll, Ack, Eoi} 
+use Rattle.vsm_core.specs.declared.operation.Op.TheVariants.{Set, Get, Load, Store, Exec, Spin, Jump, JumpNe, VtlCall, VtlReturn, Poll, Ack, Eoi}
 use Rattle.vsm_core.specs.declared.operation.Op.TheVariants as ops
 use Rattle.vsm_core.specs.Access.{Goal, Decision, Grants, Denies, Faults, access, start_fault}
-use Rattle.vsm_core.specs.Controllers.{Controllers, message_page, message_steps, post_steps, eom_steps, vector_words, with_taken}
+use Rattle.vsm_core.specs.Controllers.{Controllers, message_page, post_steps, eom_steps, vector_words, with_taken}
 use Rattle.vsm_core.specs.Fills.{Cached}
 use Rattle.vsm_core.specs.Outcomes.{Origin, Outcome, Refusal, faulted, plain, outcome_at, fills, loaded, passed, spun, set_outcome, get_outcome, jumped, note_of, held_outcome, denied_outcome, ack_outcome, eoi_outcome, eom_outcome}
 use Rattle.vsm_core.specs.Registers.{get as get_in}

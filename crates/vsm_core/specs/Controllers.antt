@@ -1,5 +1,5 @@
 -- What a processor's interrupt controllers hold, and what becomes of messages (TLFS, Synthetic Interrupt Controller: Message Slots, SINT Registers, EOM Register).
-use Rattle.std.specs.Prelude.{ℕ, suc, ◌+◌, ◌/◌, ◌%◌, ◌^◌, ◌==◌, ◌&&◌, Bool, true, false, if◌then◌else◌, nat_lt, nat_le, Option, Some, None, List, [], ◌∷◌, ◌++◌, take, drop}
+use Rattle.std.specs.Prelude.{ℕ, suc, ◌/◌, ◌%◌, ◌^◌, ◌==◌, ◌&&◌, Bool, true, false, if◌then◌else◌, nat_le, Option, Some, None, List, [], ◌∷◌, ◌++◌, take, drop}
 use Rattle.vsm_base.specs.declared.name.Name.TheVariants as names
 use Rattle.vsm_base.specs.declared.places.Vtl.{Vtl}
 use Rattle.vsm_base.specs.declared.places.Vtl.TheVariants.{Zero, One}
@@ -8,7 +8,7 @@ use Rattle.vsm_core.specs.declared.event.PendingWord.TheVariants.{Vectors as Vec
 use Rattle.vsm_core.specs.declared.mark.EomWord.{EomWord}
 use Rattle.vsm_core.specs.declared.mark.EomWord.TheVariants as eoms
 use Rattle.vsm_core.specs.declared.mark.Posted.{Posted}
-use Rattle.vsm_core.specs.declared.mark.Posted.TheVariants.{Slot, Waiting, Held}
+use Rattle.vsm_core.specs.declared.mark.Posted.TheVariants.{Slot, Waiting}
 use Rattle.vsm_core.specs.declared.note.Note.{Note}
 use Rattle.vsm_core.specs.Messages.{message_words, is_free, with_pending, flagged}
 use Rattle.vsm_core.specs.Registers.{get as get_in}

@@ -1,5 +1,5 @@
 -- The messages by which level 1 learns of intercepts (TLFS, HV_MESSAGE and Memory Access Messages). The order of a header's fields, and the whole payload of a register intercept, are this project's own.
-use Rattle.std.specs.Prelude.{◌≡◌, ℕ, zero, suc, ◌*◌, ◌/◌, ◌%◌, ◌^◌, ◌==◌, ◌<◌, Bool, true, false, if◌then◌else◌, Option, Some, None, List, [], ◌∷◌, ◌++◌, bit_or, slice_index, slice_set, take, drop}
+use Rattle.std.specs.Prelude.{ℕ, zero, suc, ◌*◌, ◌/◌, ◌%◌, ◌^◌, ◌==◌, ◌<◌, Bool, true, false, if◌then◌else◌, Option, Some, None, List, [], ◌∷◌, ◌++◌, bit_or, slice_index, slice_set, take, drop}
 use Rattle.std.specs.Int.{bytes_low_first, from_le_bytes, w64}
 use Rattle.vsm_base.specs.declared.places.Access.{Access}
 use Rattle.vsm_base.specs.declared.places.Access.TheVariants.{Read, Write, Execute}

@@ -5,15 +5,14 @@ use Rattle.vsm_base.specs.declared.name.Name.TheVariants as names
 use Rattle.vsm_base.specs.declared.places.Access.{Access}
 use Rattle.vsm_base.specs.declared.places.Limits.{Limits}
 use Rattle.vsm_base.specs.declared.places.Vtl.{Vtl}
-use Rattle.vsm_core.specs.declared.mark.EomWord.{EomWord}
 use Rattle.vsm_core.specs.declared.mark.EomWord.TheVariants as eoms
 use Rattle.vsm_core.specs.declared.mark.Grant.{Grant}
 use Rattle.vsm_core.specs.declared.mark.GuestFault.{GuestFault}
 use Rattle.vsm_core.specs.declared.mark.GuestFault.TheVariants.{Gp}
 use Rattle.vsm_core.specs.declared.mark.Posted.{Posted}
-use Rattle.vsm_core.specs.declared.mark.Posted.TheVariants.{Slot, Waiting, Held}
+use Rattle.vsm_core.specs.declared.mark.Posted.TheVariants.{Held}
 use Rattle.vsm_core.specs.declared.mark.What.{What}
-use Rattle.vsm_core.specs.declared.mark.What.TheVariants.{Granted, Again, Denied, Fault, Value, Entered, Plain, Eom}
+use Rattle.vsm_core.specs.declared.mark.What.TheVariants.{Granted, Again, Denied, Fault, Value, Plain, Eom}
 use Rattle.vsm_core.specs.declared.note.Note.{Note}
 use Rattle.vsm_core.specs.declared.note.Note.TheVariants.{Memory}
 use Rattle.vsm_core.specs.Controllers.{Controllers, vectors_at, with_vectors, noted, posted_by, eom_by, waiting_then}
@@ -21,7 +20,7 @@ use Rattle.vsm_core.specs.Fills.{Fill, Cached, Filled, Emptied}
 use Rattle.vsm_core.specs.Registers.{is_legal}
 use Rattle.vsm_core.specs.State.{State, get, put, put_legal, gone_to, gone_on, rip_of, word_of, may_name}
 use Rattle.vsm_core.specs.Switch.{entered, is_zero}
-use Rattle.vsm_core.specs.Vectors.{Vectors, deliverable, acknowledged, ended}
+use Rattle.vsm_core.specs.Vectors.{deliverable, acknowledged, ended}
 
 -- what an attempt begins with: how many pages there are, the number of its processor, the processor's state, and what its interrupt controllers hold
 pub record Origin : Type 0 where
