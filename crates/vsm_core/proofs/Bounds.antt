@@ -31,7 +31,7 @@ use Rattle.vsm_core.specs.Controllers.{Controllers, writes, rings, sint0_vector,
 use Rattle.vsm_core.specs.Messages.{message_words, flagged, is_free}
 use Rattle.vsm_core.specs.Outcomes.{Origin, Outcome, Refusal, faulted, plain, outcome_at, loaded, passed, spun, note_of, held_outcome, denied_outcome, eom_outcome}
 use Rattle.vsm_core.specs.Registers.{is_legal, get as get_in}
-use Rattle.vsm_core.specs.Attempt.{attempt, by_access, begun, leaves, left_with, in_own_access, told_on, by_slot, posting, tells, refused, most_denied, most_steps, most_steps_of, goal_of, returns, is_wanted, polled_on, sends, eom_on}
+use Rattle.vsm_core.specs.Attempt.{attempt, by_access, begun, leaves, left_with, in_own_access, told_on, by_slot, posting, tells, refused, most_denied, most_steps, most_steps_of, goal_of, returns, is_wanted, wanted_outcome, unwanted_outcome, polled_on, sending, sends, eom_on}
 
 pub Counts-then_ : {A B : Type 0} (most : A → ℕ) (most_then : B → ℕ) (n : ℕ) (t : Tree A) (f : A → Tree B) → Counts most n t → ((m : ℕ) (a : A) → m ≤ most a → Counts most_then m (f a)) → Counts most_then n (then_ t f)
 Counts-then_ most most_then n (Ends a) f h g = g n a h
@@ -191,8 +191,8 @@ returns-counts from (Some page) = λ a. λ b. λ c. λ d. λ e. omega arith
 
 polled_on-counts : (from : Origin) (controllers : Controllers) → Counts most_steps 8 (polled_on from controllers)
 polled_on-counts from controllers =
-    Counts-cond most_steps 8 (may_enter from.state && is_wanted from.state controllers) (in_own_access (told_on (assist_page from.pages from.state) by_interrupt) _) (Ends _)
-    (told-counts (assist_page from.pages from.state) by_interrupt 8 _ (omega arith)) (omega arith)
+    Counts-cond most_steps 8 (is_wanted from.state controllers) (in_own_access (told_on (assist_page from.pages from.state) by_interrupt) (wanted_outcome from.state controllers)) (Ends (unwanted_outcome from.state controllers))
+    (told-counts (assist_page from.pages from.state) by_interrupt 8 (wanted_outcome from.state controllers) (omega arith)) (omega arith)
 
 eom_steps-few : (number : ℕ) (state : State) (page word : ℕ) (note : Note) (more : List Note) → length (eom_steps number state page word note more) ≤ 13
 eom_steps-few number state page word note more =
@@ -206,17 +206,22 @@ most_steps-eom false from word state o e = ap most_steps_of e
 eom_outcome-most : (from : Origin) (slot : Option ℕ) → most_steps (eom_outcome from slot) ≡ 17
 eom_outcome-most from slot = most_steps-eom (is_zero from.state.active) from (eom_by slot from.controllers.waiting) (gone_on from.state) _ refl
 
-sends-counts : (from : Origin) (page : ℕ) (note : Note) (more : List Note) (word : ℕ) → Counts most_steps 3 (sends from page note more word)
-sends-counts from page note more word =
-    let steps = eom_steps from.number from.state page word note more in
-    let few = eom_steps-few from.number from.state page word note more in
+sending-few : (from : Origin) (page : Option ℕ) (waiting : List Note) (word : ℕ) → length (sending from page waiting word) ≤ 13
+sending-few from None waiting word = omega arith
+sending-few from (Some page) [] word = omega arith
+sending-few from (Some page) (note ∷ more) word = eom_steps-few from.number from.state page word note more
+
+sends-counts : (from : Origin) (word : ℕ) → Counts most_steps 3 (sends from word)
+sends-counts from word =
+    let steps = sending from (message_page from.pages from.state) from.controllers.waiting word in
+    let few = sending-few from (message_page from.pages from.state) from.controllers.waiting word in
     let most = eom_outcome-most from (Some word) in
     asks_all-counts most_steps 3 steps (left_with (eom_outcome from (Some word))) (λ x. omega (arith, few, most))
 
 eom_on-counts : (from : Origin) (page : Option ℕ) (waiting : List Note) → Counts most_steps 0 (eom_on from page waiting)
 eom_on-counts from None waiting = omega arith
 eom_on-counts from (Some page) [] = omega arith
-eom_on-counts from (Some page) (note ∷ more) = λ a. λ b. λ word. sends-counts from page note more word
+eom_on-counts from (Some page) (note ∷ more) = λ a. λ b. λ word. sends-counts from word
 
 -- registers are set and got with no step at all
 set-counts : (b : Bool) (from : Origin) (state : State) (does : List Cached) → Counts most_steps 0 (Ends (cond b (outcome_at from Plain state does) (faulted from Gp)))

@@ -27,10 +27,10 @@ use Rattle.vsm_core.specs.Access.{Goal, Decision, Grants, Denies, Faults, data_s
 use Rattle.vsm_core.specs.Registers.{get as get_in}
 use Rattle.vsm_base.specs.declared.name.Name.TheVariants as names
 use Rattle.vsm_core.specs.Switch.{may_call, may_return, may_enter, is_zero, is_fast, page_if, page_named, assist_page, restored_from, by_call, by_interrupt}
-use Rattle.vsm_core.specs.Controllers.{Controllers, message_page, message_steps, post_steps, eom_steps, pending_steps, writes, rings, sint0_vector, has_none, vector_words, with_taken}
+use Rattle.vsm_core.specs.Controllers.{Controllers, message_page, message_steps, post_steps, pending_steps, writes, rings, sint0_vector, has_none, vector_words, with_taken}
 use Rattle.vsm_core.specs.Messages.{message_words, flagged, is_free}
 use Rattle.vsm_core.specs.Outcomes.{Origin, Outcome, Refusal, origin_in, outcome_at, faulted, fills, loaded, passed, spun, note_of, held_outcome, denied_outcome, eom_outcome}
-use Rattle.vsm_core.specs.Attempt.{attempt, by_access, begun, leaves, left_with, in_own_access, told_on, by_slot, posting, tells, refused, goal_of, returns, is_wanted, polled_on, polled, sends, eom_on}
+use Rattle.vsm_core.specs.Attempt.{attempt, by_access, begun, leaves, left_with, in_own_access, told_on, by_slot, posting, tells, refused, goal_of, returns, is_wanted, wanted_outcome, unwanted_outcome, polled_on, sending, polled, sends, eom_on}
 use Rattle.vsm_core.proofs.Bounds.{words-twelve, flagged-length}
 use Rattle.vsm_core.specs.Sound.{Sound, IsOver}
 
@@ -261,21 +261,27 @@ module _ (limits : Limits) (number : ℕ) (state : State) (controllers : Control
 
   polled_on-sound : (es : List Event) (after : Controllers) → phase_of es ≡ Idle → Sound limits IsOver es (polled_on from after)
   polled_on-sound es after idle =
-      Sound-cond limits IsOver es (may_enter state && is_wanted state after) (in_own_access (told_on (assist_page limits.pages state) by_interrupt) _) (Ends _)
-      (λ _. told-sound es (assist_page limits.pages state) by_interrupt _ (assist-there limits.pages state) idle) idle
+      Sound-cond limits IsOver es (is_wanted state after) (in_own_access (told_on (assist_page limits.pages state) by_interrupt) (wanted_outcome state after)) (Ends (unwanted_outcome state after))
+      (λ _. told-sound es (assist_page limits.pages state) by_interrupt (wanted_outcome state after) (assist-there limits.pages state) idle) idle
 
-  sends-sound : (es : List Event) (page word : ℕ) (note : Note) (more : List Note) → page < limits.pages → IsIn (phase_of es) → Sound limits IsOver es (sends from page note more word)
-  sends-sound es page word note more there inside =
+  sending-quiet : (page : Option ℕ) (waiting : List Note) (word : ℕ) → IsThere limits.pages page → AreQuiet limits (sending from page waiting word)
+  sending-quiet None waiting word there = tt
+  sending-quiet (Some page) [] word there = tt
+  sending-quiet (Some page) (note ∷ more) word there =
       let words = flagged (cond (has_none more) false true) (message_words note) in
-      asks_all-sound limits IsOver es (eom_steps number state page word note more) (left_with (eom_outcome from (Some word)))
-      (quiet-cond limits (is_free word) (message_steps number state page words) (pending_steps page word) (message_steps-quiet limits number state page words low there (flagged-length (cond (has_none more) false true) (message_words note) ∙ words-twelve note)) ((there, omega arith), tt))
+      quiet-cond limits (is_free word) (message_steps number state page words) (pending_steps page word) (message_steps-quiet limits number state page words low there (flagged-length (cond (has_none more) false true) (message_words note) ∙ words-twelve note)) ((there, omega arith), tt)
+
+  sends-sound : (es : List Event) (word : ℕ) → IsIn (phase_of es) → Sound limits IsOver es (sends from word)
+  sends-sound es word inside =
+      asks_all-sound limits IsOver es (sending from (message_page limits.pages state) controllers.waiting word) (left_with (eom_outcome from (Some word)))
+      (sending-quiet (message_page limits.pages state) controllers.waiting word (message-there limits.pages state))
       inside (λ fs within. left-sound fs (eom_outcome from (Some word)) within)
 
   eom_on-sound : (es : List Event) (page : Option ℕ) (waiting : List Note) → IsThere limits.pages page → phase_of es ≡ Idle → Sound limits IsOver es (eom_on from page waiting)
   eom_on-sound es None waiting there idle = idle
   eom_on-sound es (Some page) [] there idle = idle
   eom_on-sound es (Some page) (note ∷ more) there idle =
-      (idle, λ a. (refl, λ b. ((tt, there, omega arith), λ word. sends-sound _ page word note more there tt)))
+      (idle, λ a. (refl, λ b. ((tt, there, omega arith), λ word. sends-sound _ word tt)))
 
 -- whatever was found in words of pending vectors
 polls-sound : (limits : Limits) (es : List Event) (rest : List ℕ → Tree Outcome) → ((fs : List Event) (found : List ℕ) → phase_of fs ≡ Idle → Sound limits IsOver fs (rest found)) → phase_of es ≡ Idle → Sound limits IsOver es (takes vector_words [] rest)

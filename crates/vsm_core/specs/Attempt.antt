@@ -112,29 +112,44 @@ returns from (Some page) =
 abbrev pub return_tree : Origin → Tree Outcome
 return_tree from = if may_return from.state then returns from (restored_from from.pages from.state) else Ends (faulted from Undefined)
 
--- level 1 has a vector that is delivered next
+-- level 1 has a vector that is delivered next, and is entered for it
 abbrev pub is_wanted : State → Controllers → Bool
-is_wanted state controllers = is_some (deliverable controllers.one (get_in state.registers One names.Cr8 % 2 ^ 64))
+is_wanted state controllers = may_enter state && is_some (deliverable controllers.one (get_in state.registers One names.Cr8 % 2 ^ 64))
+
+-- level 0 goes past its poll
+abbrev pub wanted_outcome : State → Controllers → Outcome
+wanted_outcome state controllers = record { what = Entered; state = entered (gone_on state); controllers = controllers; does = [] }
+
+abbrev pub unwanted_outcome : State → Controllers → Outcome
+unwanted_outcome state controllers = record { what = Plain; state = gone_on state; controllers = controllers; does = [] }
 
 -- a poll enters level 1 from level 0 where that has a deliverable vector
 abbrev pub polled_on : Origin → Controllers → Tree Outcome
 polled_on from controllers =
-    if may_enter from.state && is_wanted from.state controllers
-    then in_own_access (told_on (assist_page from.pages from.state) by_interrupt) (record { what = Entered; state = entered (gone_on from.state); controllers = controllers; does = [] })
-    else Ends (record { what = Plain; state = gone_on from.state; controllers = controllers; does = [] })
+    if is_wanted from.state controllers
+    then in_own_access (told_on (assist_page from.pages from.state) by_interrupt) (wanted_outcome from.state controllers)
+    else Ends (unwanted_outcome from.state controllers)
 
 -- what is left of a poll that has found this in all words of pending vectors
 abbrev pub polled : Origin → List ℕ → Tree Outcome
 polled from found = polled_on from (with_taken from.controllers found)
 
--- the oldest note's message goes to the slot, or is said to wait, by the slot's first word
-abbrev pub sends : Origin → ℕ → Note → List Note → ℕ → Tree Outcome
-sends from page note more word = asks_all (eom_steps from.number from.state page word note more) (left_with (eom_outcome from (Some word)))
+-- the steps of an end of message, where the slot has this first word
+abbrev pub sending : Origin → Option ℕ → List Note → ℕ → List WordStep
+sending from None waiting word = []
+sending from (Some page) [] word = []
+sending from (Some page) (note ∷ more) word = eom_steps from.number from.state page word note more
 
+-- the oldest note's message goes to the slot, or is said to wait there
+abbrev pub sends : Origin → ℕ → Tree Outcome
+sends from word =
+    asks_all (sending from (message_page from.pages from.state) from.controllers.waiting word) (left_with (eom_outcome from (Some word)))
+
+-- the slot is looked at where it is on and a note waits
 abbrev pub eom_on : Origin → Option ℕ → List Note → Tree Outcome
 eom_on from None waiting = Ends (eom_outcome from None)
 eom_on from (Some page) [] = Ends (eom_outcome from None)
-eom_on from (Some page) (note ∷ more) = in_access (Asks (Reading page 0) (sends from page note more))
+eom_on from (Some page) (note ∷ more) = in_access (Asks (Reading page 0) (sends from))
 
 abbrev pub eom_tree : Origin → Tree Outcome
 eom_tree from =
