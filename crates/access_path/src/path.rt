@@ -12,6 +12,7 @@ use crate::ways::paging;
 use fabric::Port;
 use page_walk::Walk;
 use std::marker::Model;
+use vsm_base::Gva;
 use vsm_core::{Event, GuestFault};
 
 /// One access: an enter, a check of the generation, with paging on the four tables of the walk, and the word itself.
@@ -56,6 +57,13 @@ impl Path {
             aim,
             place: Place::Start,
         })
+    }
+
+    /// The address of the access.
+    pub fn gva(&self) -> Gva
+        ensures { result ≡ self.now.aim.gva }
+    {
+        self.aim.gva
     }
 
     /// Makes the next step of the access at the port of its processor, and tells its event. It needs that every

@@ -1,6 +1,9 @@
+pub mod Held
 pub mod Logs
+pub mod Looks
 pub mod Results
 pub mod Sound
 pub mod Stages
 pub mod Tasks
 pub mod Turns
+pub mod Words

@@ -1,27 +1,30 @@
--- What an attempt has come to, by the decision of its access.
-use Rattle.std.specs.Prelude.{◌≡◌, ◌==◌, Bool, if◌then◌else◌, List, [], Option, Some, None}
+-- What an attempt has come to, by how it was decided.
+use Rattle.std.specs.Prelude.{◌≡◌, ℕ, ◌==◌, Bool, if◌then◌else◌, List, [], Option, Some, None}
 use Rattle.vsm_core.specs.declared.mark.Grant.{Grant}
 use Rattle.vsm_core.specs.declared.mark.GuestFault.TheVariants.{Undefined}
-use Rattle.vsm_core.specs.declared.mark.Posted.TheVariants.{Held}
 use Rattle.vsm_core.specs.declared.mark.What.{What}
-use Rattle.vsm_core.specs.declared.mark.What.TheVariants as whats
 use Rattle.vsm_core.specs.declared.operation.Op.{Op}
-use Rattle.vsm_core.specs.declared.operation.Op.TheVariants.{Set, Get, Load, Spin, Jump, JumpNe}
-use Rattle.vsm_core.specs.Attempt.{Outcome, faulted, plain, set_outcome, get_outcome, jumped, loaded, passed, spun}
+use Rattle.vsm_core.specs.declared.operation.Op.TheVariants.{Set, Get, Load, Spin, Jump, JumpNe, Ack, Eoi}
+use Rattle.vsm_core.specs.Attempt.{is_wanted, wanted_outcome, unwanted_outcome}
+use Rattle.vsm_core.specs.Controllers.{Controllers, with_taken}
 use Rattle.vsm_core.specs.Fills.{Cached}
+use Rattle.vsm_core.specs.Outcomes.{Origin, Outcome, Refusal as Refused, outcome_at, faulted, plain, set_outcome, get_outcome, jumped, loaded, passed, spun, note_of, held_outcome, denied_outcome, ack_outcome, eoi_outcome, eom_outcome}
 use Rattle.vsm_core.specs.State.{State, gone_to}
-use Rattle.vsm_core.specs.Switch.{may_call, may_return, called, returned}
+use Rattle.vsm_core.specs.Switch.{may_call, may_return, may_enter, called, returned}
 use Rattle.vsm_core.specs.Tree.{Tree, Ends}
-use Rattle.cpu.specs.declared.operations.Decided.{Decided}
-use Rattle.cpu.specs.declared.operations.Decided.TheVariants.{Local, Granted, Denied, Fault, Called, Returned}
+use Rattle.cpu.specs.declared.decided.Decided.{Decided}
+use Rattle.cpu.specs.declared.decided.Decided.TheVariants.{Local, Granted, Denied, Fault, Called, Returned, Polled, Eom}
+use Rattle.cpu.specs.declared.decided.Refusal.{Refusal}
 
--- what an operation comes to that makes no access
-abbrev pub local_outcome : State → Op → Outcome
-local_outcome state (Set name value) = set_outcome state name value
-local_outcome state (Get name) = get_outcome state name
-local_outcome state (Jump rip) = plain (gone_to state rip)
-local_outcome state (JumpNe name value rip) = plain (jumped state name value rip)
-local_outcome state _ = faulted state Undefined
+-- what an operation comes to that makes no step
+abbrev pub local_outcome : Origin → Op → Outcome
+local_outcome from (Set name value) = set_outcome from name value
+local_outcome from (Get name) = get_outcome from name
+local_outcome from (Jump rip) = plain from (gone_to from.state rip)
+local_outcome from (JumpNe name value rip) = plain from (jumped from.state name value rip)
+local_outcome from (Ack name) = ack_outcome from name
+local_outcome from Eoi = eoi_outcome from
+local_outcome from _ = faulted from Undefined
 
 -- what an operation makes of a grant
 abbrev pub granted_of : State → Op → Grant → What × State
@@ -34,23 +37,38 @@ abbrev pub again_of : Op → Decided → Option Grant
 again_of (Spin gva value) (Granted grant) = if grant.value == value then None else Some grant
 again_of op decided = None
 
--- a switch from one state to another; it is undefined where it isn't lawful
-abbrev pub switched : Bool → State → State → What × State
-switched lawful before after = if lawful then (whats.Plain, after) else (whats.Fault Undefined, before)
+-- a switch to another state; it is undefined where it isn't lawful
+abbrev pub switched : Bool → Origin → State → Outcome
+switched lawful from after = if lawful then plain from after else faulted from Undefined
 
--- what an attempt of this operation comes to, and the state that it leaves
-abbrev pub result_of : State → Op → Decided → What × State
-result_of state op Local = ((local_outcome state op).what, (local_outcome state op).state)
-result_of state op (Granted grant) = granted_of state op grant
-result_of state op (Denied page mask generation access) = (whats.Denied (record { page = page; mask = mask; generation = generation; access = access; posted = Held }), state)
-result_of state op (Fault fault) = (whats.Fault fault, state)
-result_of state op Called = switched (may_call state) state (called state)
-result_of state op (Returned pair) = switched (may_return state) state (returned state pair)
+-- what was denied
+abbrev pub refusal_of : Refusal → Refused
+refusal_of r = record { page = r.page.0; mask = r.mask; generation = r.generation; access = r.access; gpa = r.gpa }
 
--- the outcome of this, with nothing done to the cached translations
-abbrev pub outcome : What × State → Outcome
-outcome result = record { what = result.0; state = result.1; does = [] }
+-- a denied access where the message slot has this first word: level 1 is entered, where it may be
+abbrev pub told_or_held : Bool → Origin → Refusal → Option ℕ → Outcome
+told_or_held enters from r slot =
+    if enters then denied_outcome from (refusal_of r) (note_of from r.gva (refusal_of r)) slot [] else held_outcome from (refusal_of r) []
+
+-- a poll after which the controllers hold this
+abbrev pub polled_outcome : State → Controllers → Outcome
+polled_outcome state controllers = if is_wanted state controllers then wanted_outcome state controllers else unwanted_outcome state controllers
+
+-- what an attempt of this operation comes to
+abbrev pub result_of : Origin → Op → Decided → Outcome
+result_of from op Local = local_outcome from op
+result_of from op (Granted grant) = outcome_at from (granted_of from.state op grant).0 (granted_of from.state op grant).1 []
+result_of from op (Denied r slot) = told_or_held (may_enter from.state) from r slot
+result_of from op (Fault fault) = faulted from fault
+result_of from op Called = switched (may_call from.state) from (called from.state)
+result_of from op (Returned pair) = switched (may_return from.state) from (returned from.state pair)
+result_of from op (Polled found) = polled_outcome from.state (with_taken from.controllers found)
+result_of from op (Eom slot) = eom_outcome from slot
+
+-- the same, with this done to the cached translations
+abbrev pub with_does : List Cached → Outcome → Outcome
+with_does does o = record { what = o.what; state = o.state; controllers = o.controllers; does = does }
 
 -- the end of an attempt that came to this, whatever it did to the cached translations
-abbrev pub EndsAs : Tree Outcome → What × State → Type 0
-EndsAs tree result = (does : List Cached) × (tree ≡ Ends (record { what = result.0; state = result.1; does = does }))
+abbrev pub EndsAs : Tree Outcome → Outcome → Type 0
+EndsAs tree o = (does : List Cached) × (tree ≡ Ends (with_does does o))

@@ -6,6 +6,7 @@ use Rattle.vsm_core.specs.Processor.{Vp, spin_limit}
 use Rattle.vsm_core.specs.State.{rip_of}
 use Rattle.vtl_state.specs.States.{state_of}
 use Rattle.cpu.specs.declared.processor.Cpu.TheInside.{Inside}
+use Rattle.cpu.specs.Held.{held_of, origin_at}
 use Rattle.cpu.specs.Logs.{standing_of}
 use Rattle.cpu.specs.Stages.{Means, op_of}
 
@@ -17,6 +18,7 @@ view_of c = record {
   one_length = c.one_length;
   started = c.started;
   state = state_of c.bank c.levels;
+  controllers = held_of c.controllers;
   op = op_of c.under;
   marks = c.log.marks.0;
   seen = c.log.seen.0;
@@ -39,14 +41,15 @@ pub record IsSound (c : Inside) : Type 0 where
   pub marks_room : c.log.marks.1 ≡ c.limits.budget
   pub seen_room : c.log.seen.1 ≡ 64 * c.limits.budget
   pub marks_few : length c.log.marks.0 ≤ c.limits.budget
-  pub part_few : c.log.part ≤ 13 * length (standing_of c.log.again c.log.marks.0)
+  pub notes : c.limits.budget ≤ c.controllers.synic.room + length (standing_of c.log.again c.log.marks.0)
+  pub part_few : c.log.part ≤ 27 * length (standing_of c.log.again c.log.marks.0)
   pub part_le : c.log.part ≤ c.log.first
   pub first_few : c.log.first ≤ c.log.part + 13
   pub first_le : c.log.first ≤ length c.log.seen.0
-  pub seen_few : length c.log.seen.0 ≤ c.log.first + 13
+  pub seen_few : length c.log.seen.0 ≤ c.log.first + 27
   pub room : c.log.ended ≡ None → length (standing_of c.log.again c.log.marks.0) < c.limits.budget
   pub running : c.started ≡ true → c.log.ended ≡ None → rip_of (state_of c.bank c.levels) < length_at c.zero_length c.one_length c.levels.active
   pub spins : c.log.ended ≡ None → c.log.spins < spin_limit
   pub waits : c.started ≡ false → c.under ≡ None
   pub fresh : c.started ≡ false → c.log.again ≡ false
-  pub means : Means c.limits.pages (state_of c.bank c.levels) c.under c.log.seen.0 c.log.part c.log.first
+  pub means : Means (origin_at c.limits.pages c.vp.0 c.bank c.levels c.controllers) c.under c.log.seen.0 c.log.part c.log.first

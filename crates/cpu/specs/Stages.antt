@@ -3,47 +3,61 @@ use Rattle.std.specs.Prelude.{◌≡◌, ◌≢◌, ℕ, ◌<◌, Option, Some, 
 use Rattle.vsm_core.specs.declared.event.Event.{Event}
 use Rattle.vsm_core.specs.declared.event.Phase.{Phase}
 use Rattle.vsm_core.specs.declared.event.Phase.TheVariants.{Idle, Entered, In}
-use Rattle.vsm_core.specs.declared.mark.What.{What}
 use Rattle.vsm_core.specs.declared.operation.Op.{Op}
 use Rattle.vsm_core.specs.Access.{Decision}
-use Rattle.vsm_core.specs.Attempt.{Outcome, attempt, leaves, most_steps}
+use Rattle.vsm_core.specs.Attempt.{attempt, leaves, left_with, most_steps}
 use Rattle.vsm_core.specs.Fills.{Cached}
+use Rattle.vsm_core.specs.Outcomes.{Origin, Outcome}
 use Rattle.vsm_core.specs.Seat.{Seat}
-use Rattle.vsm_core.specs.State.{State}
 use Rattle.vsm_core.specs.Steps.{IsIn, learned}
-use Rattle.vsm_core.specs.Tree.{Tree, Ends, Asks, Leaving, then_, follow, Counts}
+use Rattle.vsm_core.specs.Tree.{Tree, Ends, Asks, then_, follow, Counts}
 use Rattle.vsm_core.specs.Turns.{Turned}
 use Rattle.access_path.specs.declared.place.Place.TheVariants.{Over}
 use Rattle.access_path.specs.Rest.{Rest, IsAt, Serves}
 use Rattle.cpu.specs.declared.stage.Stage.{Stage}
-use Rattle.cpu.specs.declared.stage.Stage.TheVariants.{Reach, Touch, Leave, End}
+use Rattle.cpu.specs.declared.stage.Stage.TheVariants.{Reach, Take, Judge, Touch, Leave, End}
 use Rattle.cpu.specs.declared.stage.Under.{Under}
 use Rattle.cpu.specs.declared.stage.StageStep.{StageStep}
-use Rattle.cpu.specs.Results.{EndsAs, granted_of, result_of}
-use Rattle.cpu.specs.Tasks.{GateAt, TaskIs, TaskServes, gate_rest, task_rest}
+use Rattle.cpu.specs.declared.task.Case.{Case}
+use Rattle.cpu.specs.declared.task.Case.TheVariants.{Refused}
+use Rattle.cpu.specs.declared.task.Gate.{Gate}
+use Rattle.cpu.specs.declared.task.Gate.TheVariants.{Inside}
+use Rattle.cpu.specs.Results.{EndsAs, granted_of, result_of, with_does}
+use Rattle.cpu.specs.Tasks.{GateAt, CaseAt, TaskIs, TaskServes, gate_rest, task_rest, taking_rest, case_rest}
 use Rattle.cpu.specs.Turns.{phase_at}
 
 -- the leave is left, and then the end of an attempt that came to this
-abbrev pub LeavesAs : Tree Outcome → What × State → Type 0
-LeavesAs tree result = (does : List Cached) × (tree ≡ Asks Leaving (λ _. Ends (record { what = result.0; state = result.1; does = does })))
+abbrev pub LeavesAs : Tree Outcome → Outcome → Type 0
+LeavesAs tree o = (does : List Cached) × (tree ≡ left_with (with_does does o))
 
 -- what is left of an attempt of this operation at a stage
-abbrev pub StageRest : State → Op → Stage → Tree Outcome → Type 0
-StageRest state op (Reach path) tree = (t : Tree Decision) × Rest path.aim path.place t × (tree ≡ then_ t (leaves state (granted_of state op)))
-StageRest state op (Touch gate task) tree = tree ≡ gate_rest gate (task_rest state op task)
-StageRest state op (Leave decided) tree = LeavesAs tree (result_of state op decided)
-StageRest state op (End decided) tree = EndsAs tree (result_of state op decided)
+abbrev pub StageRest : Origin → Op → Stage → Tree Outcome → Type 0
+StageRest from op (Reach path) tree = (t : Tree Decision) × Rest path.aim path.place t × (tree ≡ then_ t (leaves from path.aim.gva.0 (granted_of from.state op)))
+StageRest from op (Take taken) tree = tree ≡ taking_rest from taken
+StageRest from op (Judge case) tree = (does : List Cached) × (tree ≡ case_rest from does case)
+StageRest from op (Touch gate task) tree = (does : List Cached) × (tree ≡ gate_rest gate (task_rest from op does task))
+StageRest from op (Leave decided) tree = LeavesAs tree (result_of from op decided)
+StageRest from op (End decided) tree = EndsAs tree (result_of from op decided)
 
--- a stage of an attempt on so many pages
-abbrev pub StageIs : ℕ → Stage → Type 0
-StageIs count (Reach path) = (path.aim.pages ≡ count) × (path.place ≢ Over)
-StageIs count (Touch gate task) = TaskIs count task
-StageIs count (Leave decided) = Unit {0}
-StageIs count (End decided) = Unit {0}
+-- a stage of an attempt of the processor of this number on so many pages, that has been decided as far as it can be
+abbrev pub StageIs : ℕ → ℕ → Stage → Type 0
+StageIs pages number (Reach path) = (path.aim.pages ≡ pages) × (path.place ≢ Over)
+StageIs pages number (Take taken) = taken.count < 8
+StageIs pages number (Judge case) = ⊥
+StageIs pages number (Touch gate task) = TaskIs pages number task
+StageIs pages number (Leave decided) = Unit {0}
+StageIs pages number (End decided) = Unit {0}
+
+-- such a stage, or one that the state decides
+abbrev pub StageMay : ℕ → ℕ → Stage → Type 0
+StageMay pages number (Judge case) = Unit {0}
+StageMay pages number stage = StageIs pages number stage
 
 -- the phases in which a processor can be at a stage
 abbrev pub StageAt : Stage → Phase → Type 0
 StageAt (Reach path) phase = IsAt path.place phase
+StageAt (Take taken) phase = phase ≡ Idle
+StageAt (Judge case) phase = CaseAt case phase
 StageAt (Touch gate task) phase = GateAt gate phase
 StageAt (Leave decided) phase = IsIn phase
 StageAt (End decided) phase = phase ≡ Idle
@@ -57,35 +71,54 @@ TidyIn part first (In generation) = part ≡ first
 abbrev pub IsTidy : ℕ → ℕ → Stage → Phase → Type 0
 IsTidy part first (Reach path) phase = TidyIn part first phase
 IsTidy part first (Touch gate task) phase = TidyIn part first phase
-IsTidy part first (Leave decided) phase = part ≡ first
-IsTidy part first (End decided) phase = part ≡ first
+IsTidy part first _ phase = part ≡ first
 
 -- a stage from which a step is made
 abbrev pub is_going : Stage → Bool
-is_going (Reach path) = true
-is_going (Touch gate task) = true
-is_going (Leave decided) = true
 is_going (End decided) = false
+is_going _ = true
+
+-- a poll takes its words
+abbrev pub IsTaking : Stage → Type 0
+IsTaking (Take taken) = Unit {0}
+IsTaking _ = ⊥
 
 -- a port that may be lent to a stage from which a step is made
 abbrev pub StageServes : Stage → Seat → Type 0
 StageServes (Reach path) seat = Serves path.aim path.place seat × (path.place ≢ Over)
+StageServes (Take taken) seat = (seat.phase ≡ Idle) × (taken.count < 8) × (seat.vp < seat.limits.vps)
+StageServes (Judge case) seat = ⊥
 StageServes (Touch gate task) seat = TaskServes gate task seat
 StageServes (Leave decided) seat = IsIn seat.phase × (seat.vp < seat.limits.vps)
 StageServes (End decided) seat = ⊥
 
--- an access that goes on or was decided has a step left, at least its leave
+-- an access that goes on, was denied or was decided
+abbrev pub IsReached : Stage → Type 0
+IsReached (Reach path) = Unit {0}
+IsReached (Judge (Refused r)) = Unit {0}
+IsReached (Leave decided) = Unit {0}
+IsReached _ = ⊥
+
+-- an access that isn't checked yet goes on
+abbrev pub IsEntering : Stage → Type 0
+IsEntering (Touch gate task) = Unit {0}
+IsEntering _ = ⊥
+
+abbrev pub GateGoes : Gate → Stage → Type 0
+GateGoes Inside next = Unit {0}
+GateGoes _ next = IsEntering next
+
+-- where a step can lead from a stage
 abbrev pub Goes : Stage → Stage → Type 0
-Goes (Reach path) next = is_going next ≡ true
-Goes (Touch gate task) next = is_going next ≡ true
-Goes (Leave decided) next = Unit {0}
-Goes (End decided) next = Unit {0}
+Goes (Reach path) next = IsReached next
+Goes (Touch gate task) next = GateGoes gate next
+Goes _ next = Unit {0}
 
 -- the step from a stage, as its port saw it, and where it led
 pub record StageSteps (stage : Stage) (old new : Seat) (step : StageStep) : Type 0 where
   pub event : new.last ≡ Some step.event
-  pub turned : (state : State) (op : Op) (tree : Tree Outcome) → StageRest state op stage tree → Turned tree old new (StageRest state op step.stage)
-  pub is : (count : ℕ) → StageIs count stage → StageIs count step.stage
+  pub turned : (from : Origin) (op : Op) (tree : Tree Outcome) → StageRest from op stage tree → Turned tree old new (StageRest from op step.stage)
+  pub is : (pages number : ℕ) → StageIs pages number stage → StageMay pages number step.stage
   pub at : StageAt step.stage new.phase
   pub goes : Goes stage step.stage
 
@@ -95,14 +128,14 @@ op_of None = None
 op_of (Some u) = Some u.op
 
 -- an attempt that is where these events of its own have led
-pub record IsUnderWay (count : ℕ) (state : State) (u : Under) (seen : List Event) (part first : ℕ) : Type 0 where
-  pub is : StageIs count u.stage
-  pub rest : StageRest state u.op u.stage (follow (attempt count state u.op) (map learned (drop first seen)))
-  pub counts : Counts most_steps (length (drop first seen)) (follow (attempt count state u.op) (map learned (drop first seen)))
+pub record IsUnderWay (from : Origin) (u : Under) (seen : List Event) (part first : ℕ) : Type 0 where
+  pub is : StageIs from.pages from.number u.stage
+  pub rest : StageRest from u.op u.stage (follow (attempt from u.op) (map learned (drop first seen)))
+  pub counts : Counts most_steps (length (drop first seen)) (follow (attempt from u.op) (map learned (drop first seen)))
   pub phase : StageAt u.stage (phase_at seen first)
   pub tidy : IsTidy part first u.stage (phase_at seen first)
 
 -- what is under way is where the events so far have led
-abbrev pub Means : ℕ → State → Option Under → List Event → ℕ → ℕ → Type 0
-Means count state None seen part first = (first ≡ length seen) × (part ≡ first)
-Means count state (Some u) seen part first = IsUnderWay count state u seen part first
+abbrev pub Means : Origin → Option Under → List Event → ℕ → ℕ → Type 0
+Means from None seen part first = (first ≡ length seen) × (part ≡ first)
+Means from (Some u) seen part first = IsUnderWay from u seen part first

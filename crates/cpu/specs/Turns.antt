@@ -9,8 +9,8 @@ use Rattle.vsm_core.specs.declared.mark.What.{What}
 use Rattle.vsm_core.specs.declared.mark.What.TheVariants as whats
 use Rattle.vsm_core.specs.declared.operation.Op.{Op}
 use Rattle.vsm_core.specs.declared.operation.Program.{Program}
-use Rattle.vsm_core.specs.Attempt.{Outcome, faulted}
-use Rattle.vsm_core.specs.Processor.{Vp, operation_at, saw, settled}
+use Rattle.vsm_core.specs.Outcomes.{Outcome, faulted}
+use Rattle.vsm_core.specs.Processor.{Vp, operation_at, origin_of, saw, settled}
 use Rattle.vsm_core.specs.Seat.{Seat, Makes}
 use Rattle.vsm_core.specs.Steps.{made, phase_of}
 use Rattle.vsm_core.specs.Tree.{Tree, Ends, Asks, Wants, Taking}
@@ -49,7 +49,7 @@ TurnsBy (Wants q k) op old before new after turn = ⊥
 -- a processor that hasn't started, after it took this from its start word: nothing changes where it was 0, and a start
 -- can't be served yet, so that the processor ends as at an undefined operation
 abbrev pub woken : ℕ → Vp → Vp
-woken x v = if x == 0 then v else settled (Ends (faulted v.state Undefined)) (saw None v (made (Taking Start) x))
+woken x v = if x == 0 then v else settled (Ends (faulted (origin_of v) Undefined)) (saw None v (made (Taking Start) x))
 
 abbrev pub answer_woken : ℕ → Option Ending → CpuTurn
 answer_woken x ended = if x == 0 then Idle else after_mark (whats.Fault Undefined) ended

@@ -1,28 +1,31 @@
 // The first stage of an attempt.
 ghost use Rattle.std.specs.Prelude.{◌≡◌, ◌<◌, ℕ, List, length, None, Some, IfSome, if◌then◌else◌, slice_get};
-ghost use Rattle.vsm_core.specs.Attempt.{attempt, by_access, call_tree, return_tree, goal_of as goal_of_lem};
-ghost use Rattle.vsm_core.specs.State.{State, rip_of};
+ghost use Rattle.vsm_core.specs.Attempt.{attempt, by_access, call_tree, return_tree, eom_tree, goal_of as goal_of_lem};
+ghost use Rattle.vsm_core.specs.Outcomes.{Origin};
+ghost use Rattle.vsm_core.specs.State.{rip_of};
 ghost use Rattle.vsm_core.specs.Switch.{may_call, may_return, assist_page, restored_from};
 ghost use Rattle.vsm_core.specs.declared.event.Phase.TheVariants.{Idle};
 ghost use Rattle.access_path.specs.Rest.{goal_of};
 ghost use Rattle.vtl_state.specs.States.{state_of};
 ghost use Rattle.vtl_switch.specs.Answers.{number_of};
+ghost use Rattle.cpu.specs.Held.{origin_at, origin_with};
 ghost use Rattle.cpu.specs.Results.{granted_of};
-ghost use Rattle.cpu.specs.Stages.{StageRest, StageIs, StageAt, IsUnderWay, Means, op_of};
+ghost use Rattle.cpu.specs.Stages.{StageRest, StageIs, StageAt, IsTaking, IsUnderWay, Means, op_of};
+ghost use Rattle.cpu.specs.Looks.{looked_page as looked_page_lem};
+ghost use Rattle.vsm_core.specs.Controllers.{Controllers as Contents};
 
-use crate::operations::Decided;
+use crate::controllers::Controllers;
+use crate::decided::Decided;
+use crate::plans::{message_page, nothing};
 use crate::registers::operand;
 use crate::stage::{Stage, Under};
-use crate::task::{Gate, Task};
+use crate::task::{Gate, Matter, Taken, Task};
 use access_path::{Aim, Path};
 use register_file::Bank;
-use vsm_base::{Access, Gva, Name, Page};
+use vsm_base::{Access, Gva, Name, Page, VpIndex, Vtl};
 use vsm_core::{Event, Op};
 use vtl_state::{Levels, privilege_of, word_of};
-use vtl_switch::{Back, call_kind, entry_word, return_kind};
-
-/// The place in the assist page of the reason of an entry (TLFS, Virtual Processor Assist Page, VTL control).
-const REASON: u16 = 1;
+use vtl_switch::{Back, call_kind, return_kind};
 
 /// Level 1 was entered by a call (TLFS, HV_VTL_ENTRY_REASON).
 const BY_CALL: u32 = 1;
@@ -59,8 +62,8 @@ fn aim_at(
 }
 
 fn reaching(aim: Aim) -> Stage
-    ensures rest { (state : State) (op : Op) → StageRest state op result (by_access state (granted_of state op) (goal_of aim)) }
-    ensures is { StageIs aim.pages result }
+    ensures rest { (from : Origin) (op : Op) → StageRest from op result (by_access from (granted_of from.state op) (goal_of aim)) }
+    ensures is { (number : ℕ) → StageIs aim.pages number result }
     ensures idle { StageAt result Idle }
 {
     match Path::start(aim) {
@@ -82,24 +85,21 @@ fn told_page(pages: u32, bank: &Bank, levels: &Levels) -> Option<Page>
     }
 }
 
-fn calling(pages: u32, bank: &Bank, levels: &Levels) -> Stage
-    ensures rest { StageRest (state_of bank.now levels.now) Op.VtlCall result (call_tree pages (state_of bank.now levels.now)) }
-    ensures is { StageIs pages result }
+fn calling(pages: u32, vp: VpIndex, bank: &Bank, levels: &Levels) -> Stage
+    ensures rest { (held : Contents) → StageRest (origin_with pages vp.0 bank.now levels.now held) Op.VtlCall result (call_tree (origin_with pages vp.0 bank.now levels.now held)) }
+    ensures is { StageIs pages vp.0 result }
     ensures idle { StageAt result Idle }
 {
+    let decided = Decided::Called;
     match told_page(pages, bank, levels) {
         Some(page) => Stage::Touch {
             gate: Gate::Outside,
-            task: Task::Tell {
-                page,
-                index: REASON,
-                word: entry_word(BY_CALL),
-                decided: Decided::Called,
+            task: Task::Make {
+                plan: nothing(vp, Some(page), BY_CALL),
+                decided,
             },
         },
-        None => Stage::End {
-            decided: Decided::Called,
-        },
+        None => Stage::End { decided },
     }
 }
 
@@ -117,8 +117,8 @@ fn given_page(pages: u32, bank: &Bank, levels: &Levels) -> Option<Page>
 }
 
 fn returning(pages: u32, bank: &Bank, levels: &Levels) -> Stage
-    ensures rest { StageRest (state_of bank.now levels.now) Op.VtlReturn result (return_tree pages (state_of bank.now levels.now)) }
-    ensures is { StageIs pages result }
+    ensures rest { (number : ℕ) (held : Contents) → StageRest (origin_with pages number bank.now levels.now held) Op.VtlReturn result (return_tree (origin_with pages number bank.now levels.now held)) }
+    ensures is { (number : ℕ) → StageIs pages number result }
     ensures idle { StageAt result Idle }
 {
     match given_page(pages, bank, levels) {
@@ -132,11 +132,56 @@ fn returning(pages: u32, bank: &Bank, levels: &Levels) -> Stage
     }
 }
 
-/// The first stage of an attempt.
-pub fn begin(pages: u32, bank: &Bank, levels: &Levels, op: Op) -> Stage
-    ensures rest { StageRest (state_of bank.now levels.now) op result (attempt pages (state_of bank.now levels.now) op) }
-    ensures is { StageIs pages result }
+/// The page whose message slot an end of message looks at.
+fn looked_page(
+    pages: u32,
+    bank: &Bank,
+    levels: &Levels,
+    controllers: &Controllers,
+) -> Option<Page>
+    ensures page { number_of result ≡ looked_page_lem pages (state_of bank.now levels.now) controllers.now.synic.waiting }
+    ensures below { IfSome result (λ page. page.0 < pages) }
+{
+    let page = message_page(pages, bank)?;
+    if levels.active() == Vtl::One && !controllers.synic.waiting().is_empty() {
+        Some(page)
+    } else {
+        None
+    }
+}
+
+fn ending(pages: u32, bank: &Bank, levels: &Levels, controllers: &Controllers) -> Stage
+    ensures rest { (number : ℕ) → StageRest (origin_at pages number bank.now levels.now controllers.now) Op.Eom result (eom_tree (origin_at pages number bank.now levels.now controllers.now)) }
+    ensures is { (number : ℕ) → StageIs pages number result }
     ensures idle { StageAt result Idle }
+{
+    match looked_page(pages, bank, levels, controllers) {
+        Some(page) => Stage::Touch {
+            gate: Gate::Outside,
+            task: Task::Look {
+                page,
+                matter: Matter::Ending,
+            },
+        },
+        None => Stage::End {
+            decided: Decided::Eom(None),
+        },
+    }
+}
+
+/// The first stage of an attempt.
+pub fn begin(
+    pages: u32,
+    vp: VpIndex,
+    bank: &Bank,
+    levels: &Levels,
+    controllers: &Controllers,
+    op: Op,
+) -> Stage
+    ensures rest { StageRest (origin_at pages vp.0 bank.now levels.now controllers.now) op result (attempt (origin_at pages vp.0 bank.now levels.now controllers.now) op) }
+    ensures is { StageIs pages vp.0 result }
+    ensures idle { StageAt result Idle }
+    ensures takes { IsTaking result → op ≡ Op.Poll }
 {
     match op {
         Op::Load(_, gva) => reaching(aim_at(pages, bank, levels, Access::Read, true, gva, 0)),
@@ -146,8 +191,15 @@ pub fn begin(pages: u32, bank: &Bank, levels: &Levels, op: Op) -> Stage
         }
         Op::Exec(gva) => reaching(aim_at(pages, bank, levels, Access::Execute, false, gva, 0)),
         Op::Spin(gva, _) => reaching(aim_at(pages, bank, levels, Access::Read, true, gva, 0)),
-        Op::VtlCall => calling(pages, bank, levels),
+        Op::VtlCall => calling(pages, vp, bank, levels),
         Op::VtlReturn => returning(pages, bank, levels),
+        Op::Poll => Stage::Take {
+            taken: Taken {
+                found: [0; 8],
+                count: 0,
+            },
+        },
+        Op::Eom => ending(pages, bank, levels, controllers),
         _ => Stage::End {
             decided: Decided::Local,
         },
@@ -155,10 +207,18 @@ pub fn begin(pages: u32, bank: &Bank, levels: &Levels, op: Op) -> Stage
 }
 
 /// What is under way when the next step is made: a new attempt, where there was none.
-pub fn begun(pages: u32, bank: &Bank, levels: &Levels, under: Option<Under>, ops: &[Op]) -> Under
+pub fn begun(
+    pages: u32,
+    vp: VpIndex,
+    bank: &Bank,
+    levels: &Levels,
+    controllers: &Controllers,
+    under: Option<Under>,
+    ops: &[Op],
+) -> Under
     requires rip { rip_of (state_of bank.now levels.now) < length ops.now }
     requires same { IfSome (op_of under) (λ op. slice_get ops.now (rip_of (state_of bank.now levels.now)) ≡ Some op) }
-    ensures means { (seen : List Event) (part first : ℕ) → Means pages (state_of bank.now levels.now) under seen part first → IsUnderWay pages (state_of bank.now levels.now) result seen part first }
+    ensures means { (seen : List Event) (part first : ℕ) → Means (origin_at pages vp.0 bank.now levels.now controllers.now) under seen part first → IsUnderWay (origin_at pages vp.0 bank.now levels.now controllers.now) result seen part first }
     ensures op { slice_get ops.now (rip_of (state_of bank.now levels.now)) ≡ Some result.op }
     ensures kept { IfSome under (λ u. result ≡ u) }
 {
@@ -167,7 +227,7 @@ pub fn begun(pages: u32, bank: &Bank, levels: &Levels, under: Option<Under>, ops
         None => {
             let rip = word_of(bank, levels, Name::Rip);
             let op = ops[rip as usize];
-            let stage = begin(pages, bank, levels, op);
+            let stage = begin(pages, vp, bank, levels, controllers, op);
             Under { op, stage }
         }
     }

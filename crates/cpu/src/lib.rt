@@ -2,14 +2,21 @@
 #![tactic(auto)]
 
 mod beginning;
+mod controllers;
 mod cpu_turn;
+mod decided;
 mod endings;
+mod interrupts;
+mod judging;
 mod log;
+mod messages;
 mod operations;
+mod plans;
 mod processor;
 mod registers;
 mod stage;
 mod stepping;
+mod taking;
 mod task;
 mod touching;
 

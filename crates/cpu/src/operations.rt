@@ -1,40 +1,28 @@
-// What an operation makes of its decision, and what that does to the registers.
-ghost use Rattle.std.specs.Prelude.{◌≡◌};
-ghost use Rattle.vsm_core.specs.Attempt.{set_outcome, get_outcome, jumped};
+// What an operation makes of its decision, and what that does to the registers and the controllers.
+ghost use Rattle.std.specs.Prelude.{◌≡◌, ◌+◌, ◌<◌, ◌≤◌, ℕ};
+ghost use Rattle.vsm_core.specs.Controllers.{Controllers as Contents};
+ghost use Rattle.vsm_core.specs.Outcomes.{set_outcome, get_outcome, jumped};
 ghost use Rattle.vsm_core.specs.State.{gone_on, put_legal as put_legal_lem};
 ghost use Rattle.vsm_core.specs.Switch.{may_call, may_return, called, returned};
 ghost use Rattle.vtl_state.specs.States.{state_of};
+ghost use Rattle.cpu.specs.Held.{held_of, origin_at, origin_with};
 ghost use Rattle.cpu.specs.Results.{again_of, local_outcome, granted_of, result_of, switched};
 
+use crate::controllers::Controllers;
+use crate::decided::Decided;
+use crate::interrupts::{ack, end_interrupt, poll};
+use crate::messages::{deny, end_message};
 use crate::registers::{go_to, may_name};
 use register_file::{BadValue, Bank};
-use vsm_base::{Access, Mask, Name, Page};
-use vsm_core::{Denial, Grant, GuestFault, Op, Posted, What};
+use vsm_base::{Name, VpIndex};
+use vsm_core::{Grant, GuestFault, Op, What};
 use vtl_state::{Levels, go_on, put_legal, word_of};
 use vtl_switch::{Refused, call, give_back};
 
-/// How an attempt was decided. What that does to the state it does at the mark.
-#[derive(Clone, Copy, Debug, PartialEq, Eq)]
-pub enum Decided {
-    /// The operation makes no access.
-    Local,
-    Granted(Grant),
-    Denied {
-        page: Page,
-        mask: Mask,
-        generation: u64,
-        access: Access,
-    },
-    Fault(GuestFault),
-    /// Level 0 calls level 1.
-    Called,
-    /// Level 1 returns to level 0, and these become RAX and RCX, where there is a pair.
-    Returned(Option<(u64, u64)>),
-}
-
 fn set(bank: &mut Bank, levels: &Levels, name: Name, value: u128) -> What
-    ensures what { result ≡ (set_outcome (state_of bank.old levels.now) name value).what }
-    ensures state { state_of bank.new levels.now ≡ (set_outcome (state_of bank.old levels.now) name value).state }
+    ensures what { (pages number : ℕ) (held : Contents) → result ≡ (set_outcome (origin_with pages number bank.old levels.now held) name value).what }
+    ensures state { (pages number : ℕ) (held : Contents) → state_of bank.new levels.now ≡ (set_outcome (origin_with pages number bank.old levels.now held) name value).state }
+    ensures held { (pages number : ℕ) (held : Contents) → (set_outcome (origin_with pages number bank.old levels.now held) name value).controllers ≡ held }
 {
     if !may_name(bank, levels, name) {
         return What::Fault(GuestFault::Gp);
@@ -50,8 +38,9 @@ fn set(bank: &mut Bank, levels: &Levels, name: Name, value: u128) -> What
 }
 
 fn get(bank: &mut Bank, levels: &Levels, name: Name) -> What
-    ensures what { result ≡ (get_outcome (state_of bank.old levels.now) name).what }
-    ensures state { state_of bank.new levels.now ≡ (get_outcome (state_of bank.old levels.now) name).state }
+    ensures what { (pages number : ℕ) (held : Contents) → result ≡ (get_outcome (origin_with pages number bank.old levels.now held) name).what }
+    ensures state { (pages number : ℕ) (held : Contents) → state_of bank.new levels.now ≡ (get_outcome (origin_with pages number bank.old levels.now held) name).state }
+    ensures held { (pages number : ℕ) (held : Contents) → (get_outcome (origin_with pages number bank.old levels.now held) name).controllers ≡ held }
 {
     if !may_name(bank, levels, name) {
         return What::Fault(GuestFault::Gp);
@@ -72,9 +61,16 @@ fn jump_ne(bank: &mut Bank, levels: &Levels, name: Name, value: u64, rip: u64)
     }
 }
 
-fn local(bank: &mut Bank, levels: &Levels, op: Op) -> What
-    ensures what { result ≡ (local_outcome (state_of bank.old levels.now) op).what }
-    ensures state { state_of bank.new levels.now ≡ (local_outcome (state_of bank.old levels.now) op).state }
+fn local(
+    bank: &mut Bank,
+    levels: &Levels,
+    controllers: &mut Controllers,
+    op: Op,
+) -> What
+    ensures what { (pages number : ℕ) → result ≡ (local_outcome (origin_at pages number bank.old levels.now controllers.old) op).what }
+    ensures state { (pages number : ℕ) → state_of bank.new levels.now ≡ (local_outcome (origin_at pages number bank.old levels.now controllers.old) op).state }
+    ensures controllers { (pages number : ℕ) → held_of controllers.new ≡ (local_outcome (origin_at pages number bank.old levels.now controllers.old) op).controllers }
+    ensures synic { controllers.new.synic ≡ controllers.old.synic }
 {
     match op {
         Op::Set(name, value) => set(bank, levels, name, value),
@@ -87,6 +83,8 @@ fn local(bank: &mut Bank, levels: &Levels, op: Op) -> What
             jump_ne(bank, levels, name, value, rip);
             What::Plain
         }
+        Op::Ack(name) => ack(bank, levels, controllers, name),
+        Op::Eoi => end_interrupt(bank, levels, controllers),
         _ => What::Fault(GuestFault::Undefined),
     }
 }
@@ -121,8 +119,9 @@ pub fn again(op: Op, decided: &Decided) -> Option<Grant>
 }
 
 fn call_on(bank: &mut Bank, levels: &mut Levels, pages: u32) -> What
-    ensures what { result ≡ (switched (may_call (state_of bank.old levels.old)) (state_of bank.old levels.old) (called (state_of bank.old levels.old))).0 }
-    ensures state { state_of bank.new levels.new ≡ (switched (may_call (state_of bank.old levels.old)) (state_of bank.old levels.old) (called (state_of bank.old levels.old))).1 }
+    ensures what { (pages number : ℕ) (held : Contents) → result ≡ (switched (may_call (state_of bank.old levels.old)) (origin_with pages number bank.old levels.old held) (called (state_of bank.old levels.old))).what }
+    ensures state { (pages number : ℕ) (held : Contents) → state_of bank.new levels.new ≡ (switched (may_call (state_of bank.old levels.old)) (origin_with pages number bank.old levels.old held) (called (state_of bank.old levels.old))).state }
+    ensures held { (pages number : ℕ) (held : Contents) → (switched (may_call (state_of bank.old levels.old)) (origin_with pages number bank.old levels.old held) (called (state_of bank.old levels.old))).controllers ≡ held }
 {
     match call(bank, levels, pages) {
         Ok(_) => What::Plain,
@@ -131,8 +130,9 @@ fn call_on(bank: &mut Bank, levels: &mut Levels, pages: u32) -> What
 }
 
 fn return_on(bank: &mut Bank, levels: &mut Levels, pair: Option<(u64, u64)>) -> What
-    ensures what { result ≡ (switched (may_return (state_of bank.old levels.old)) (state_of bank.old levels.old) (returned (state_of bank.old levels.old) pair)).0 }
-    ensures state { state_of bank.new levels.new ≡ (switched (may_return (state_of bank.old levels.old)) (state_of bank.old levels.old) (returned (state_of bank.old levels.old) pair)).1 }
+    ensures what { (pages number : ℕ) (held : Contents) → result ≡ (switched (may_return (state_of bank.old levels.old)) (origin_with pages number bank.old levels.old held) (returned (state_of bank.old levels.old) pair)).what }
+    ensures state { (pages number : ℕ) (held : Contents) → state_of bank.new levels.new ≡ (switched (may_return (state_of bank.old levels.old)) (origin_with pages number bank.old levels.old held) (returned (state_of bank.old levels.old) pair)).state }
+    ensures held { (pages number : ℕ) (held : Contents) → (switched (may_return (state_of bank.old levels.old)) (origin_with pages number bank.old levels.old held) (returned (state_of bank.old levels.old) pair)).controllers ≡ held }
 {
     match give_back(bank, levels, pair) {
         Ok(()) => What::Plain,
@@ -140,28 +140,33 @@ fn return_on(bank: &mut Bank, levels: &mut Levels, pair: Option<(u64, u64)>) -> 
     }
 }
 
-/// What an attempt comes to by its decision, on so many pages. It changes the registers and the active level so.
-pub fn finish(bank: &mut Bank, levels: &mut Levels, pages: u32, op: Op, decided: Decided) -> What
-    ensures what { result ≡ (result_of (state_of bank.old levels.old) op decided).0 }
-    ensures state { state_of bank.new levels.new ≡ (result_of (state_of bank.old levels.old) op decided).1 }
+/// What an attempt comes to by its decision, on so many pages. It changes the registers, the active level and the
+/// controllers so.
+pub fn finish(
+    pages: u32,
+    vp: VpIndex,
+    bank: &mut Bank,
+    levels: &mut Levels,
+    controllers: &mut Controllers,
+    op: Op,
+    decided: Decided,
+) -> What
+    requires { 0 < controllers.old.synic.room }
+    ensures what { result ≡ (result_of (origin_at pages vp.0 bank.old levels.old controllers.old) op decided).what }
+    ensures state { state_of bank.new levels.new ≡ (result_of (origin_at pages vp.0 bank.old levels.old controllers.old) op decided).state }
+    ensures controllers { held_of controllers.new ≡ (result_of (origin_at pages vp.0 bank.old levels.old controllers.old) op decided).controllers }
+    ensures room { controllers.old.synic.room ≤ controllers.new.synic.room + 1 }
 {
     match decided {
-        Decided::Local => local(bank, levels, op),
+        Decided::Local => local(bank, levels, controllers, op),
         Decided::Granted(grant) => granted(bank, levels, op, grant),
-        Decided::Denied {
-            page,
-            mask,
-            generation,
-            access,
-        } => What::Denied(Denial {
-            page,
-            mask,
-            generation,
-            access,
-            posted: Posted::Held,
-        }),
+        Decided::Denied(refusal, slot) => {
+            deny(pages, vp, bank, levels, controllers, refusal, slot)
+        }
         Decided::Fault(fault) => What::Fault(fault),
         Decided::Called => call_on(bank, levels, pages),
         Decided::Returned(pair) => return_on(bank, levels, pair),
+        Decided::Polled(found) => poll(bank, levels, controllers, found),
+        Decided::Eom(slot) => end_message(bank, levels, controllers, slot),
     }
 }

@@ -1,31 +1,37 @@
 // A processor, its attempts and its turns.
-ghost use Rattle.std.specs.Prelude.{◌≡◌, ◌≢◌, ◌+◌, ◌-◌, ◌<◌, ◌≤◌, true, false, None, Some, IfSome, IfNone, IfOk, length, drop};
+ghost use Rattle.std.specs.Prelude.{◌≡◌, ◌≢◌, [], ◌+◌, ◌-◌, ◌<◌, ◌≤◌, true, false, None, Some, IfSome, IfNone, IfOk, length, drop};
 ghost use Rattle.std.specs.List.{All};
-ghost use Rattle.vsm_core.specs.Processor.{opening, standing, operation_at, operations_of, length_of, rest_of, settled, marked, came_to, new_marks, IsShort, IsSameProcessor};
-ghost use Rattle.vsm_core.specs.Attempt.{Outcome, attempt, most_steps_of};
+ghost use Rattle.vsm_core.specs.Processor.{opening, standing, operation_at, operations_of, length_of, rest_of, settled, marked, came_to, new_marks, origin_of, IsShort, IsSameProcessor};
+ghost use Rattle.vsm_core.specs.Attempt.{attempt, most_steps_of};
+ghost use Rattle.vsm_core.specs.Outcomes.{Outcome, outcome_at};
 ghost use Rattle.vsm_core.specs.Tree.{Ends};
 ghost use Rattle.cpu.specs.Sound.{length_at};
 ghost use Rattle.vtl_state.specs.States.{state_of};
-ghost use Rattle.cpu.specs.Results.{outcome, result_of};
+ghost use Rattle.cpu.specs.Results.{result_of};
 ghost use Rattle.cpu.specs.Turns.{Keeps, VpServes, TurnsBy, Wakes, answer_at, after_mark, phase_at};
 
 use crate::beginning::{begin, begun};
+use crate::controllers::Controllers;
 use crate::cpu_turn::{CpuTurn, after_mark};
 use crate::endings::{ending, ending_on, opening_ending};
+use crate::decided::Decided;
+use crate::judging::judged;
 use crate::log::Log;
-use crate::operations::{Decided, again, finish};
+use crate::operations::{again, finish};
 use crate::stage::{Stage, Under, is_going};
 use crate::stepping::step;
 use fabric::Port;
 use register_file::Bank;
+use secure_intr::Pending;
 use std::alloc::Global;
 use std::marker::Model;
+use synic::Synic;
 use vsm_base::{Items, Limits, Memory, Name, Reserved, VpIndex, Vtl};
 use vsm_core::{Ending, Event, Grant, GuestFault, Mark, Op, PendingWord, Phase, Program, What};
 use vtl_state::{Levels, word_of};
 
-/// A virtual processor: its registers, the operation that it is at, its marks and its events. Contracts see all of these
-/// as the definition has them. The operations, and the steps of their attempts, are this project's own.
+/// A virtual processor: its registers, what its interrupt controllers hold, the operation that it is at, its marks and its
+/// events. Contracts see all of these as the definition has them. The operations, and the steps of their attempts, are this project's own.
 #[derive(Drop)]
 pub struct Cpu {
     vp: VpIndex,
@@ -35,6 +41,7 @@ pub struct Cpu {
     started: bool,
     bank: Bank,
     levels: Levels,
+    controllers: Controllers,
     under: Option<Under>,
     log: Log,
 }
@@ -70,12 +77,12 @@ fn operations<'a>(program: &'a Program, levels: &Levels) -> &'a [Op]
 
 impl Cpu {
     /// A processor before its first turn: level 0 is active, its program stands at its first operation, and all
-    /// registers are as at an opening. It takes room for as many marks as the budget says, which is 1 to 10,000, and
-    /// for 64 events each; its turns take no memory. Its number is below the count of processors.
+    /// registers are as at an opening. It takes room for as many marks as the budget says, which is 1 to 10,000, for 64
+    /// events each and for as many notes that wait; its turns take no memory. Its number is below the count of processors.
     ///
     /// # Errors
     /// `Memory` where there is no memory for that room, and for no other cause.
-    #[tactic(auto, unfolding(vsm_core::specs::State::opening_state, vsm_core::specs::Processor::spin_limit))]
+    #[tactic(auto, unfolding(vsm_core::specs::State::opening_state, vsm_core::specs::Controllers::opening_controllers, vsm_core::specs::Processor::spin_limit))]
     pub fn new(
         alloc: Global,
         vp: VpIndex,
@@ -91,6 +98,7 @@ impl Cpu {
         let budget = limits.budget as usize;
         let marks = Reserved::new(alloc, budget)?;
         let seen = Reserved::new(alloc, 64 * budget)?;
+        let synic = Synic::new(alloc, limits.budget)?;
         let zero_length = program.zero.len();
         let ended = opening_ending(started, zero_length, limits.budget);
         let log = Log {
@@ -110,6 +118,11 @@ impl Cpu {
             started,
             bank: Bank::opening(),
             levels: Levels::opening(),
+            controllers: Controllers {
+                zero: Pending::new(),
+                one: Pending::new(),
+                synic,
+            },
             under: None,
             log,
         })
@@ -121,9 +134,9 @@ impl Cpu {
         requires fresh { self.old.again ≡ false }
         requires tidy { self.old.part ≡ self.old.first }
         requires idle { phase_at self.old.seen self.old.first ≡ Phase.Idle }
-        requires few { length self.old.seen - self.old.first ≤ most_steps_of (result_of self.old.state op decided).0 }
-        ensures new { self.new ≡ marked self.old (outcome (result_of self.old.state op decided)) }
-        ensures turn { result ≡ after_mark (result_of self.old.state op decided).0 self.new.ended }
+        requires few { length self.old.seen - self.old.first ≤ most_steps_of (result_of (origin_of self.old) op decided).what }
+        ensures new { self.new ≡ marked self.old (result_of (origin_of self.old) op decided) }
+        ensures turn { result ≡ after_mark (result_of (origin_of self.old) op decided).what self.new.ended }
         ensures short { All IsShort (drop (length self.old.marks) self.new.marks) }
         ensures phase { phase_at self.new.seen self.new.first ≡ Phase.Idle }
         ensures same { IsSameProcessor self.old self.new }
@@ -132,8 +145,15 @@ impl Cpu {
     {
         let level = self.levels.active();
         let rip = word_of(&self.bank, &self.levels, Name::Rip);
-        let pages = self.limits.pages;
-        let what = finish(&mut self.bank, &mut self.levels, pages, op, decided);
+        let what = finish(
+            self.limits.pages,
+            self.vp,
+            &mut self.bank,
+            &mut self.levels,
+            &mut self.controllers,
+            op,
+            decided,
+        );
         let now = word_of(&self.bank, &self.levels, Name::Rip);
         let length = length_of(self.zero_length, self.one_length, &self.levels);
         let marks = self.log.marks.as_slice().len() + 1;
@@ -160,8 +180,9 @@ impl Cpu {
         requires idle { phase_at self.old.seen self.old.first ≡ Phase.Idle }
         requires few { length self.old.seen - self.old.first ≤ 13 }
         requires op { self.old.op ≡ Some op }
-        requires asks { (o : Outcome) → attempt self.old.limits.pages self.old.state op ≢ Ends o }
-        ensures new { self.new ≡ came_to (What.Again grant) self.old (outcome (What.Again grant, self.old.state)) }
+        requires asks { (o : Outcome) → attempt (origin_of self.old) op ≢ Ends o }
+        requires spins { op ≢ Op.Poll }
+        ensures new { self.new ≡ came_to (What.Again grant) self.old (outcome_at (origin_of self.old) (What.Again grant) self.old.state []) }
         ensures turn { result ≡ after_mark (What.Again grant) self.new.ended }
         ensures short { All IsShort (drop (length self.old.marks) self.new.marks) }
         ensures phase { phase_at self.new.seen self.new.first ≡ Phase.Idle }
@@ -181,7 +202,14 @@ impl Cpu {
                 CpuTurn::Ended(ending)
             }
             None => {
-                let stage = begin(self.limits.pages, &self.bank, &self.levels, op);
+                let stage = begin(
+                    self.limits.pages,
+                    self.vp,
+                    &self.bank,
+                    &self.levels,
+                    &self.controllers,
+                    op,
+                );
                 self.under = Some(Under { op, stage });
                 self.log.mark_again(level, rip, grant);
                 CpuTurn::Again
@@ -231,7 +259,15 @@ impl Cpu {
         ensures within { length self.new.marks ≤ self.old.limits.budget }
     {
         let ops = operations(program, &self.levels);
-        let under = begun(self.limits.pages, &self.bank, &self.levels, self.under, ops);
+        let under = begun(
+            self.limits.pages,
+            self.vp,
+            &self.bank,
+            &self.levels,
+            &self.controllers,
+            self.under,
+            ops,
+        );
         self.log.stand();
         self.under = Some(under);
         if !is_going(&under.stage) {
@@ -239,9 +275,17 @@ impl Cpu {
         }
         let step = step(under.stage, port);
         self.log.see(step.event);
+        let stage = judged(
+            self.limits.pages,
+            self.vp,
+            &self.bank,
+            &self.levels,
+            &self.controllers,
+            step.stage,
+        );
         self.under = Some(Under {
             op: under.op,
-            stage: step.stage,
+            stage,
         });
         self.settle()
     }
@@ -279,7 +323,8 @@ impl Cpu {
     ///
     /// A processor that has started makes the next step of its attempt, which is of the operation where the active
     /// level's program stands, and leaves a mark where the attempt has then come to its end. An attempt that has no
-    /// step left makes none. A mark has at most 13 events, and at most 12 where the access was denied.
+    /// step left makes none. A mark has at most 13 events, and at most 12 where the access was denied without level 1;
+    /// where level 1 is told of it, at most 15 more. An end of message has at most 17.
     ///
     /// The mark of a spin that found another value stands until the next turn, and its events until the check of the
     /// next attempt. Such a mark doesn't count for the budget. The 20,000,000th read of spins in vain ends the
@@ -312,13 +357,13 @@ impl Cpu {
         }
     }
 
-    /// The processor's number. The attempt under way has at most 13 events.
+    /// The processor's number. The attempt under way has at most 27 events.
     pub fn vp(&self) -> VpIndex
         ensures number { result.0 ≡ self.now.number }
         ensures below { self.now.number < self.now.limits.vps }
         ensures part { self.now.part ≤ self.now.first }
         ensures first { self.now.first ≤ length self.now.seen }
-        ensures few { length self.now.seen ≤ self.now.first + 13 }
+        ensures few { length self.now.seen ≤ self.now.first + 27 }
     {
         self.vp
     }

@@ -2,8 +2,8 @@
 ghost use Rattle.std.specs.Prelude.{◌≡◌};
 ghost use Rattle.cpu.specs.Stages.{is_going as is_going_lem};
 
-use crate::operations::Decided;
-use crate::task::{Gate, Task};
+use crate::decided::Decided;
+use crate::task::{Case, Gate, Taken, Task};
 use access_path::Path;
 use vsm_core::{Event, Op};
 
@@ -12,7 +12,11 @@ use vsm_core::{Event, Op};
 pub enum Stage {
     /// Its access is under way.
     Reach { path: Path },
-    /// It touches a few memory words in an access of their own.
+    /// A poll takes its words.
+    Take { taken: Taken },
+    /// Its state decides how it goes on; no step is made from here.
+    Judge { case: Case },
+    /// It touches a few memory words in an access of their own, or in the one that was denied.
     Touch { gate: Gate, task: Task },
     /// It was decided, and the leave of its access comes next.
     Leave { decided: Decided },

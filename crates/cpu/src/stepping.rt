@@ -1,16 +1,18 @@
 // The next step of an attempt.
-ghost use Rattle.std.specs.Prelude.{◌≡◌, true};
+ghost use Rattle.std.specs.Prelude.{◌≡◌, ℕ};
 ghost use Rattle.vsm_core.specs.Tree.{Tree, then_};
 ghost use Rattle.vsm_core.specs.Access.{Decision};
 ghost use Rattle.vsm_core.specs.Attempt.{leaves};
-ghost use Rattle.vsm_core.specs.State.{State};
+ghost use Rattle.vsm_core.specs.Outcomes.{Origin};
 ghost use Rattle.vsm_core.specs.declared.event.Phase.{Phase};
 ghost use Rattle.access_path.specs.Rest.{Goes, IsAt, Matches};
 ghost use Rattle.cpu.specs.Results.{granted_of};
-ghost use Rattle.cpu.specs.Stages.{StageRest, StageIs, StageAt, StageServes, StageSteps, is_going};
+ghost use Rattle.cpu.specs.Stages.{StageRest, StageMay, StageAt, StageServes, StageSteps, IsReached};
 
-use crate::operations::Decided;
+use crate::decided::{Decided, Refusal};
 use crate::stage::{Stage, StageStep};
+use crate::taking::take;
+use crate::task::Case;
 use crate::touching::touch;
 use access_path::{Path, PathTurn};
 use fabric::Port;
@@ -19,10 +21,10 @@ use vsm_core::{Event, Op};
 /// What a step of the access leads to.
 fn after_step(path: Path, turn: PathTurn) -> Stage
     requires { Matches turn path.place }
-    ensures rest { (state : State) (op : Op) (t : Tree Decision) → Goes path.aim turn path.place t → StageRest state op result (then_ t (leaves state (granted_of state op))) }
-    ensures is { StageIs path.aim.pages result }
+    ensures rest { (from : Origin) (op : Op) (t : Tree Decision) → Goes path.aim turn path.place t → StageRest from op result (then_ t (leaves from path.aim.gva.0 (granted_of from.state op))) }
+    ensures is { (number : ℕ) → StageMay path.aim.pages number result }
     ensures at { (phase : Phase) → IsAt path.place phase → StageAt result phase }
-    ensures goes { is_going result ≡ true }
+    ensures goes { IsReached result }
 {
     match turn {
         PathTurn::Moved => Stage::Reach { path },
@@ -34,14 +36,16 @@ fn after_step(path: Path, turn: PathTurn) -> Stage
             mask,
             generation,
             access,
-            gpa: _,
-        } => Stage::Leave {
-            decided: Decided::Denied {
+            gpa,
+        } => Stage::Judge {
+            case: Case::Refused(Refusal {
                 page,
                 mask,
                 generation,
                 access,
-            },
+                gva: Some(path.gva().0),
+                gpa,
+            }),
         },
         PathTurn::Fault(fault) => Stage::Leave {
             decided: Decided::Fault(fault),
@@ -77,8 +81,10 @@ pub fn step<P: Port>(stage: Stage, port: &mut P) -> StageStep
 {
     match stage {
         Stage::Reach { path } => reach(path, port),
+        Stage::Take { taken } => take(taken, port),
         Stage::Touch { gate, task } => touch(gate, task, port),
         Stage::Leave { decided } => leave(decided, port),
+        Stage::Judge { .. } => unreachable!(),
         Stage::End { .. } => unreachable!(),
     }
 }

@@ -1,6 +1,6 @@
-// What an operation does in an access of its own that touches a few memory words.
-use crate::operations::Decided;
-use vsm_base::Page;
+// What an operation does in an access of its own that touches a few memory words, and in one that was denied.
+use crate::decided::{Decided, Refusal};
+use vsm_base::{Page, VpIndex};
 
 /// How far the access has come.
 #[derive(Clone, Copy, Debug)]
@@ -13,14 +13,41 @@ pub enum Gate {
     Inside,
 }
 
+/// Steps that are still to be made, none of which teaches anything: the words from `next` on and below `count` are
+/// written to their places in a page, then a vector is requested for level 1 of this processor, and then the assist page
+/// is told the reason of an entry.
+#[derive(Clone, Copy, Debug)]
+pub struct Plan {
+    pub vp: VpIndex,
+    pub page: Page,
+    pub words: [u64; 12],
+    pub next: u8,
+    pub count: u8,
+    pub vector: Option<u8>,
+    pub told: Option<Page>,
+    pub reason: u32,
+}
+
+/// Why the first word of the message slot is read.
+#[derive(Clone, Copy, Debug)]
+pub enum Matter {
+    /// The note of a denied access is posted.
+    Denial(Refusal),
+    /// A message is ended.
+    Ending,
+}
+
 /// What is done inside.
 #[derive(Clone, Copy, Debug)]
 pub enum Task {
-    /// This word is written there, and the attempt is decided so.
-    Tell {
+    /// The first word of the message slot, which is on this page, is read.
+    Look {
         page: Page,
-        index: u16,
-        word: u64,
+        matter: Matter,
+    },
+    /// The planned steps are made, and then the access is left; the attempt is decided so.
+    Make {
+        plan: Plan,
         decided: Decided,
     },
     /// A return reads what becomes RAX, and then what becomes RCX.
@@ -32,4 +59,22 @@ pub enum Task {
         page: Page,
         rax: u64,
     },
+}
+
+/// The words of pending vectors that a poll has taken so far, level 0's first.
+#[derive(Clone, Copy, Debug)]
+pub struct Taken {
+    pub found: [u64; 8],
+    pub count: u8,
+}
+
+/// What the processor has to decide before the next step.
+#[derive(Clone, Copy, Debug)]
+pub enum Case {
+    /// Its access was denied.
+    Refused(Refusal),
+    /// The first word of the message slot is this.
+    Found(Matter, u64),
+    /// A poll has taken these words.
+    Polled([u64; 8]),
 }

@@ -8,7 +8,9 @@ use register_file::Bank;
 use vsm_base::{Name, Page, Vtl};
 use vtl_state::Levels;
 
-/// Level 1's assist page among so many, where it is on.
+/// Level 1's assist page among `pages` pages, where it is on: bit 0 of level 1's VpAssistPage is 1, and the page that its
+/// bits 63 to 12 name is there (TLFS, HV_X64_MSR_VP_ASSIST_PAGE). That a page past the last is off is this project's own
+/// rule.
 pub fn assist_page(bank: &Bank, levels: &Levels, pages: u32) -> Option<Page>
     ensures page { number_of result ≡ assist_page_lem pages (state_of bank.now levels.now) }
     ensures below { IfSome result (λ page. page.0 < pages) }

@@ -21,7 +21,8 @@ fn is_most_privileged(bank: &Bank, levels: &Levels) -> bool
     privilege_of(bank, levels) == 0
 }
 
-/// Whether an interrupt or an intercept may enter level 1.
+/// Whether an interrupt or an intercept may enter level 1: exactly where level 0 is active and level 1 is enabled (TLFS,
+/// Virtual Secure Mode, VTL Entry).
 pub fn may_enter(bank: &Bank, levels: &Levels) -> bool
     ensures lawful { result ≡ may_enter_lem (state_of bank.now levels.now) }
     ensures enabled { IsTrue result → IsTrue (is_enabled levels.now Vtl.One) }

@@ -1,0 +1,2 @@
+pub mod SynicView
+pub mod Ends
