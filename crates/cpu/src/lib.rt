@@ -26,6 +26,8 @@ pub use processor::Cpu;
 #[cfg(test)]
 mod fed;
 #[cfg(test)]
+mod message_tests;
+#[cfg(test)]
 mod switch_tests;
 #[cfg(test)]
 mod tests;

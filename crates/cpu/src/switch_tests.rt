@@ -12,15 +12,15 @@ use vsm_core::{Ending, Event, GuestFault, Mark, Op, Phase, Program, What};
 use vtl_state::Levels;
 
 /// A register of a level, and a value.
-type Put = (Vtl, Name, u128);
+pub type Put = (Vtl, Name, u128);
 
 /// Level 1's assist page is page 1, and is on.
-const PAGE_1: Put = (Vtl::One, Name::VpAssistPage, 0x1001);
+pub const PAGE_1: Put = (Vtl::One, Name::VpAssistPage, 0x1001);
 
 /// Why a processor at an operation that is undefined there ends.
 const UNDEFINED: GuestFault = GuestFault::Undefined;
 
-fn programs(alloc: Global, zero: &[Op], one: &[Op]) -> Result<Program, Fail> {
+pub fn programs(alloc: Global, zero: &[Op], one: &[Op]) -> Result<Program, Fail> {
     Ok(Program {
         zero: Items::from_vec(Vec::from_slice(alloc, zero)?),
         one: Items::from_vec(Vec::from_slice(alloc, one)?),
@@ -45,7 +45,7 @@ fn placed(cpu: Cpu, level: Vtl, puts: &[Put]) -> Option<Cpu>
     cpu.with_state(bank, levels)
 }
 
-fn machine(alloc: Global, program: &Program, level: Vtl, puts: &[Put]) -> Result<Cpu, Fail>
+pub fn machine(alloc: Global, program: &Program, level: Vtl, puts: &[Put]) -> Result<Cpu, Fail>
     ensures fits { IfOk result (λ cpu. Fits program.now cpu) }
     ensures number { IfOk result (λ cpu. cpu.number ≡ 0) }
     ensures limits { IfOk result (λ cpu. cpu.limits ≡ LIMITS) }
@@ -71,7 +71,7 @@ fn assisted(alloc: Global, rax: u64, rcx: u64) -> Result<PlainFabric, Fail>
 }
 
 /// A mark of an attempt of level 0 or 1 that stood there.
-fn mark(level: Vtl, rip: u64, what: What, count: u32) -> Mark {
+pub fn mark(level: Vtl, rip: u64, what: What, count: u32) -> Mark {
     Mark {
         level,
         rip,

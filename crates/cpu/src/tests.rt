@@ -48,7 +48,7 @@ pub fn word(fabric: &PlainFabric, index: usize) -> Option<u64> {
     fabric.words().get(memory.saturating_add(index)).copied()
 }
 
-fn fed(alloc: Global, answers: &[u64]) -> Result<Fed, Fail>
+pub fn fed(alloc: Global, answers: &[u64]) -> Result<Fed, Fail>
     ensures vp { IfOk result (λ p. p.vp.0 ≡ 0) }
     ensures limits { IfOk result (λ p. p.limits ≡ LIMITS) }
     ensures idle { IfOk result (λ p. p.phase ≡ Phase.Idle) }
@@ -84,7 +84,7 @@ pub fn attempt<P: Port>(cpu: &mut Cpu, port: &mut P, program: &Program) -> Optio
     ensures fits { Fits program.now cpu.new }
     ensures serves { VpServes cpu.new (P.seat port.new) }
 {
-    'turns: for _ in 0..14 {
+    'turns: for _ in 0..28 {
         if cpu.ended().is_some() {
             return None;
         }
@@ -108,7 +108,7 @@ pub fn attempts<P: Port>(cpu: &mut Cpu, port: &mut P, program: &Program, count: 
     }
 }
 
-fn whats(alloc: Global, marks: &[Mark]) -> Result<Vec<What>, Fail> {
+pub fn whats(alloc: Global, marks: &[Mark]) -> Result<Vec<What>, Fail> {
     let mut whats = Vec::new(alloc);
     for mark in marks {
         whats.push(mark.what)?;
@@ -219,7 +219,7 @@ fn a_fault_and_the_budget_end_it(rt: HostRuntime) -> Result<(), Fail> {
             1,
             Ending::Fault(GuestFault::Gp),
         ),
-        (Op::Poll, 1, Ending::Fault(GuestFault::Undefined)),
+        (Op::Hypercall, 1, Ending::Fault(GuestFault::Undefined)),
     ];
     for (op, marks, ending) in table {
         let program = program_of(alloc, &[op])?;

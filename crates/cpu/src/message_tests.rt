@@ -1,0 +1,566 @@
+use super::*;
+use crate::switch_tests::{PAGE_1, Put, machine, mark, programs};
+use crate::tests::{attempts, fed, plain, whats, word};
+use fabric::Port;
+use std::alloc::Global;
+use std::test::Fail;
+use vsm_base::{Access, Gva, Mask, Name, Page, VpIndex, Vtl};
+use vsm_core::{Denial, EomWord, Event, Op, Operand, PendingWord, Posted, What};
+
+/// Level 1's synthetic interrupt controller is on, its message page is page 0, and Sint0 has a vector. Level 1's assist
+/// page is page 1. Level 0 stands at its second operation.
+const OPENING: [Put; 7] = [
+    PAGE_1,
+    (Vtl::One, Name::Scontrol, 1),
+    (Vtl::One, Name::Simp, 1),
+    (Vtl::One, Name::Sint0, 0x31),
+    (
+        Vtl::Zero,
+        Name::Cs,
+        0x209B_0010_FFFF_FFFF_0000_0000_0000_1000,
+    ),
+    (Vtl::Zero, Name::Rflags, 0x246),
+    (Vtl::Zero, Name::Rip, 1),
+];
+
+const STORE: Op = Op::Store(Gva(0x328), Operand::Number(7));
+
+/// Level 0 stores at its second operation.
+const STORES: [Op; 3] = [Op::Eom, STORE, Op::Eom];
+
+/// A slot's first word with a message in it.
+const TAKEN: u64 = 0x8000_0001;
+
+/// A generation.
+const ROUND: u64 = 5;
+
+/// Level 0 polls at its second operation.
+const POLLS: [Op; 3] = [Op::Eoi, Op::Poll, Op::Eoi];
+
+/// Vector 0x40 is requested for level 1.
+const FOR_ONE: [u64; 9] = [0, 0, 0, 0, 0, 1, 0, 0, ROUND];
+
+/// The processor after so many attempts, where it begins with level 0 and its port answers so.
+fn after(
+    alloc: Global,
+    zero: &[Op],
+    one: &[Op],
+    puts: &[Put],
+    answers: &[u64],
+    count: usize,
+) -> Result<Cpu, Fail> {
+    let program = programs(alloc, zero, one)?;
+    let mut all = Vec::from_slice(alloc, OPENING.as_slice())?;
+    all.extend_from_slice(puts)?;
+    let mut cpu = machine(alloc, &program, Vtl::Zero, all.as_slice())?;
+    let mut port = fed(alloc, answers)?;
+    attempts(&mut cpu, &mut port, &program, count);
+    Ok(cpu)
+}
+
+/// A page that may be read alone.
+fn read_only() -> Mask {
+    Mask::of(1).unwrap_or(Mask::all())
+}
+
+fn denied(posted: Posted) -> What {
+    What::Denied(Denial {
+        page: Page(0),
+        mask: read_only(),
+        generation: ROUND,
+        access: Access::Write,
+        posted,
+    })
+}
+
+/// A word of the message slot is written.
+fn slot(index: u16, value: u64) -> Event {
+    Event::Write {
+        page: Page(0),
+        index,
+        value,
+    }
+}
+
+/// The first word of the message slot is read.
+fn looked(value: u64) -> Event {
+    Event::Read {
+        page: Page(0),
+        index: 0,
+        value,
+    }
+}
+
+/// The assist page is told that an interrupt or an intercept entered level 1.
+fn told() -> Event {
+    Event::Write {
+        page: Page(1),
+        index: 1,
+        value: 2,
+    }
+}
+
+/// The vector of Sint0 is requested for level 1.
+fn rung() -> Event {
+    Event::Post {
+        vp: VpIndex(0),
+        word: PendingWord::Vectors {
+            level: Vtl::One,
+            part: 0,
+        },
+        bits: 1 << 49,
+    }
+}
+
+fn checked() -> Event {
+    Event::Check { generation: ROUND }
+}
+
+fn masked() -> Event {
+    Event::Mask {
+        page: Page(0),
+        mask: read_only(),
+    }
+}
+
+/// The events of a mark, by its place.
+fn events_of(cpu: &Cpu, place: usize) -> Option<&[Event]> {
+    let mark = cpu.marks().get(place)?;
+    let first = mark.first as usize;
+    cpu.seen().get(first..first + mark.count as usize)
+}
+
+/// An event of a mark, by their places.
+fn event_of(cpu: &Cpu, place: usize, index: usize) -> Option<Event> {
+    events_of(cpu, place)?.get(index).copied()
+}
+
+/// How many events a mark has, by its place.
+fn count_of(cpu: &Cpu, place: usize) -> Option<usize> {
+    Some(events_of(cpu, place)?.len())
+}
+
+/// What an end of message came to.
+fn ended(word: EomWord) -> Option<What> {
+    Some(What::Eom(word))
+}
+
+/// A poll has taken this from the words of this level, one after the other.
+fn taken(level: Vtl, part: u8, bits: u64) -> Event {
+    Event::Take {
+        word: PendingWord::Vectors { level, part },
+        bits,
+    }
+}
+
+#[test]
+fn level_one_is_told_of_a_denied_store(rt: HostRuntime) -> Result<(), Fail> {
+    let alloc = rt.alloc();
+    let cpu = after(alloc, &STORES, &[Op::Eom; 2], &[], &[ROUND, 1, 0], 2)?;
+    let events = [
+        Event::Enter,
+        checked(),
+        masked(),
+        looked(0),
+        slot(0, 0x0000_0050_8000_0001),
+        slot(1, 0),
+        slot(2, 0x0000_0100_0000_0000),
+        slot(3, 0x1000),
+        slot(4, 0x209B_0010_FFFF_FFFF),
+        slot(5, 1),
+        slot(6, 0x246),
+        slot(7, 0x0000_0100_0000_0000),
+        slot(8, 0x328),
+        slot(9, 0x328),
+        slot(10, 0),
+        slot(11, 0),
+        rung(),
+        told(),
+        Event::Leave,
+    ];
+    assert_eq!(rt; cpu.seen(), events.as_slice());
+    let left = mark(Vtl::Zero, 1, denied(Posted::Slot), 19);
+    assert_eq!(rt; cpu.marks().first().copied(), Some(left));
+    // No note waits.
+    let ends = whats(alloc, cpu.marks())?;
+    assert_eq!(rt; ends.get(1).copied(), ended(EomWord::Nothing));
+    assert_eq!(rt; cpu.levels().active(), Vtl::One);
+    assert_eq!(rt; cpu.bank().get(Vtl::Zero, Name::Rip), 1);
+    assert_eq!(rt; cpu.ended(), None);
+    Ok(())
+}
+
+#[test]
+fn a_walk_that_is_denied_at_its_end_has_27_events(rt: HostRuntime) -> Result<(), Fail> {
+    let alloc = rt.alloc();
+    let zero = [Op::Eoi, Op::Exec(Gva(0x328)), Op::Eoi];
+    let puts = [(Vtl::Zero, Name::Cr0, 0x8000_0001)];
+    let answers = [ROUND, 15, 0x1007, 15, 0x1007, 15, 0x1007, 15, 0x1007, 1, 0];
+    let cpu = after(alloc, &zero, &[Op::Eom], &puts, &answers, 1)?;
+    assert_eq!(rt; cpu.marks().len(), 1);
+    assert_eq!(rt; count_of(&cpu, 0), Some(27));
+    assert_eq!(rt; event_of(&cpu, 0, 11), Some(looked(0)));
+    assert_eq!(rt; event_of(&cpu, 0, 14), Some(slot(2, 0x0000_0200_0000_0000)));
+    // The address of the operation, and the guest physical address that was denied.
+    assert_eq!(rt; event_of(&cpu, 0, 20), Some(slot(8, 0x328)));
+    assert_eq!(rt; event_of(&cpu, 0, 21), Some(slot(9, 0x1328)));
+    assert_eq!(rt; cpu.levels().active(), Vtl::One);
+    Ok(())
+}
+
+#[test]
+fn a_note_waits_where_the_slot_is_taken(rt: HostRuntime) -> Result<(), Fail> {
+    let alloc = rt.alloc();
+    let cpu = after(alloc, &STORES, &[Op::Eom], &[], &[ROUND, 1, TAKEN], 1)?;
+    let events = [
+        Event::Enter,
+        checked(),
+        masked(),
+        looked(TAKEN),
+        slot(0, 0x0100_8000_0001),
+        told(),
+        Event::Leave,
+    ];
+    assert_eq!(rt; cpu.seen(), events.as_slice());
+    let left = mark(Vtl::Zero, 1, denied(Posted::Waiting), 7);
+    assert_eq!(rt; cpu.marks(), [left].as_slice());
+    assert_eq!(rt; cpu.levels().active(), Vtl::One);
+    Ok(())
+}
+
+#[test]
+fn a_note_waits_behind_an_older_one(rt: HostRuntime) -> Result<(), Fail> {
+    let alloc = rt.alloc();
+    // The first note waits since the page is off. Then level 1 turns it on and returns.
+    let ops = [
+        Op::Set(Name::Scontrol, 1),
+        Op::Set(Name::Simp, 1),
+        Op::VtlReturn,
+        Op::Eom,
+    ];
+    let puts = [
+        (Vtl::One, Name::Scontrol, 0),
+        (Vtl::One, Name::Simp, 0),
+        (Vtl::Zero, Name::Rcx, 1),
+    ];
+    let answers = [ROUND, 1, ROUND, 1, 0];
+    let cpu = after(alloc, &STORES, &ops, &puts, &answers, 5)?;
+    let plain = What::Plain;
+    let waits = denied(Posted::Waiting);
+    let wanted = [waits, plain, plain, plain, waits];
+    assert_eq!(rt; whats(alloc, cpu.marks())?.as_slice(), wanted.as_slice());
+    let off = [Event::Enter, checked(), masked(), told(), Event::Leave];
+    assert_eq!(rt; events_of(&cpu, 0), Some(off.as_slice()));
+    let on = [
+        Event::Enter,
+        checked(),
+        masked(),
+        looked(0),
+        told(),
+        Event::Leave,
+    ];
+    assert_eq!(rt; events_of(&cpu, 4), Some(on.as_slice()));
+    assert_eq!(rt; cpu.levels().active(), Vtl::One);
+    Ok(())
+}
+
+#[test]
+fn a_note_waits_where_the_page_is_off(rt: HostRuntime) -> Result<(), Fail> {
+    let alloc = rt.alloc();
+    for put in [
+        (Vtl::One, Name::Scontrol, 0),
+        (Vtl::One, Name::Simp, 0),
+        (Vtl::One, Name::Simp, 0x2001),
+    ] {
+        let cpu = after(alloc, &STORES, &[Op::Eom], &[put], &[ROUND, 1], 2)?;
+        let events = [Event::Enter, checked(), masked(), told(), Event::Leave];
+        assert_eq!(rt; cpu.seen(), events.as_slice());
+        let wanted = [denied(Posted::Waiting), What::Eom(EomWord::Waiting)];
+        assert_eq!(rt; whats(alloc, cpu.marks())?.as_slice(), wanted.as_slice());
+    }
+    Ok(())
+}
+
+#[test]
+fn no_vector_is_requested_where_sint0_has_none(rt: HostRuntime) -> Result<(), Fail> {
+    let alloc = rt.alloc();
+    for sint in [0x1_0031, 0x0F] {
+        let puts = [(Vtl::One, Name::Sint0, sint)];
+        let cpu = after(alloc, &STORES, &[Op::Eom], &puts, &[ROUND, 1, 0], 1)?;
+        let left = mark(Vtl::Zero, 1, denied(Posted::Slot), 18);
+        assert_eq!(rt; cpu.marks(), [left].as_slice());
+        assert_eq!(rt; cpu.seen().get(15).copied(), Some(slot(11, 0)));
+        assert_eq!(rt; cpu.seen().get(16).copied(), Some(told()));
+    }
+    Ok(())
+}
+
+#[test]
+fn nothing_is_told_where_both_pages_are_off(rt: HostRuntime) -> Result<(), Fail> {
+    let alloc = rt.alloc();
+    let puts = [
+        (Vtl::One, Name::VpAssistPage, 0),
+        (Vtl::One, Name::Scontrol, 0),
+    ];
+    let cpu = after(alloc, &STORES, &[Op::Eom], &puts, &[ROUND, 1], 1)?;
+    let events = [Event::Enter, checked(), masked(), Event::Leave];
+    assert_eq!(rt; cpu.seen(), events.as_slice());
+    let left = mark(Vtl::Zero, 1, denied(Posted::Waiting), 4);
+    assert_eq!(rt; cpu.marks(), [left].as_slice());
+    assert_eq!(rt; cpu.levels().active(), Vtl::One);
+    Ok(())
+}
+
+#[test]
+fn an_end_of_message_sends_the_note_that_waits(rt: HostRuntime) -> Result<(), Fail> {
+    let alloc = rt.alloc();
+    let answers = [ROUND, 1, TAKEN, ROUND, 0];
+    let cpu = after(alloc, &STORES, &[Op::Eom; 3], &[], &answers, 3)?;
+    let wanted = [
+        denied(Posted::Waiting),
+        What::Eom(EomWord::Slot),
+        What::Eom(EomWord::Nothing),
+    ];
+    assert_eq!(rt; whats(alloc, cpu.marks())?.as_slice(), wanted.as_slice());
+    let events = [
+        Event::Enter,
+        checked(),
+        looked(0),
+        slot(0, 0x0000_0050_8000_0001),
+        slot(1, 0),
+        slot(2, 0x0000_0100_0000_0000),
+        slot(3, 0x1000),
+        slot(4, 0x209B_0010_FFFF_FFFF),
+        slot(5, 1),
+        slot(6, 0x246),
+        slot(7, 0x0000_0100_0000_0000),
+        slot(8, 0x328),
+        slot(9, 0x328),
+        slot(10, 0),
+        slot(11, 0),
+        rung(),
+        Event::Leave,
+    ];
+    assert_eq!(rt; events_of(&cpu, 1), Some(events.as_slice()));
+    assert_eq!(rt; count_of(&cpu, 2), Some(0));
+    assert_eq!(rt; cpu.bank().get(Vtl::One, Name::Rip), 2);
+    Ok(())
+}
+
+#[test]
+fn the_oldest_note_is_sent_first_and_says_that_more_wait(rt: HostRuntime) -> Result<(), Fail> {
+    let alloc = rt.alloc();
+    let other = Op::Store(Gva(0x330), Operand::Number(7));
+    let zero = [Op::Eom, STORE, other];
+    let one = [Op::VtlReturn, Op::Eom, Op::Eom, Op::Eom, Op::Eom];
+    let puts = [(Vtl::Zero, Name::Rcx, 1)];
+    // The first store is denied once, and then granted.
+    let answers = [
+        ROUND, 1, TAKEN, ROUND, 15, ROUND, 1, TAKEN, ROUND, 0, ROUND, 0,
+    ];
+    let cpu = after(alloc, &zero, &one, &puts, &answers, 7)?;
+    let ends = whats(alloc, cpu.marks())?;
+    assert_eq!(rt; ends.get(0).copied(), Some(denied(Posted::Waiting)));
+    assert_eq!(rt; ends.get(3).copied(), Some(denied(Posted::Waiting)));
+    assert_eq!(rt; ends.get(4).copied(), ended(EomWord::Slot));
+    assert_eq!(rt; ends.get(5).copied(), ended(EomWord::Slot));
+    assert_eq!(rt; ends.get(6).copied(), ended(EomWord::Nothing));
+    assert_eq!(rt; event_of(&cpu, 4, 3), Some(slot(0, 0x0000_0150_8000_0001)));
+    assert_eq!(rt; event_of(&cpu, 4, 8), Some(slot(5, 1)));
+    assert_eq!(rt; event_of(&cpu, 4, 11), Some(slot(8, 0x328)));
+    assert_eq!(rt; event_of(&cpu, 5, 3), Some(slot(0, 0x0000_0050_8000_0001)));
+    assert_eq!(rt; event_of(&cpu, 5, 8), Some(slot(5, 2)));
+    assert_eq!(rt; event_of(&cpu, 5, 11), Some(slot(8, 0x330)));
+    Ok(())
+}
+
+#[test]
+fn an_end_of_message_waits_where_the_slot_is_taken(rt: HostRuntime) -> Result<(), Fail> {
+    let alloc = rt.alloc();
+    let answers = [ROUND, 1, TAKEN, ROUND, TAKEN, ROUND, 0];
+    let cpu = after(alloc, &STORES, &[Op::Eom; 3], &[], &answers, 3)?;
+    let wanted = [
+        denied(Posted::Waiting),
+        What::Eom(EomWord::Waiting),
+        What::Eom(EomWord::Slot),
+    ];
+    assert_eq!(rt; whats(alloc, cpu.marks())?.as_slice(), wanted.as_slice());
+    let events = [
+        Event::Enter,
+        checked(),
+        looked(TAKEN),
+        slot(0, 0x0100_8000_0001),
+        Event::Leave,
+    ];
+    assert_eq!(rt; events_of(&cpu, 1), Some(events.as_slice()));
+    Ok(())
+}
+
+#[test]
+fn level_zero_ends_no_message(rt: HostRuntime) -> Result<(), Fail> {
+    let alloc = rt.alloc();
+    let zero = [
+        Op::Eoi,
+        STORE,
+        Op::Eom,
+        Op::Set(Name::Rcx, 0),
+        Op::VtlCall,
+        Op::Eoi,
+    ];
+    let one = [Op::VtlReturn, Op::Eom, Op::Eom];
+    let puts = [(Vtl::Zero, Name::Rcx, 1)];
+    let answers = [ROUND, 1, TAKEN, ROUND, 15, ROUND, ROUND, 0];
+    let cpu = after(alloc, &zero, &one, &puts, &answers, 7)?;
+    let ends = whats(alloc, cpu.marks())?;
+    assert_eq!(rt; ends.get(0).copied(), Some(denied(Posted::Waiting)));
+    assert_eq!(rt; ends.get(3).copied(), ended(EomWord::Nothing));
+    assert_eq!(rt; count_of(&cpu, 3), Some(0));
+    // The note still waits for level 1.
+    assert_eq!(rt; ends.get(6).copied(), ended(EomWord::Slot));
+    Ok(())
+}
+
+#[test]
+fn a_poll_enters_level_one_for_its_vector(rt: HostRuntime) -> Result<(), Fail> {
+    let alloc = rt.alloc();
+    let one = [Op::Ack(Name::Rbx), Op::Ack(Name::Rdx), Op::Eoi];
+    let puts = [(Vtl::One, Name::Rdx, 7)];
+    let cpu = after(alloc, &POLLS, &one, &puts, &FOR_ONE, 3)?;
+    let events = [
+        taken(Vtl::Zero, 0, 0),
+        taken(Vtl::Zero, 1, 0),
+        taken(Vtl::Zero, 2, 0),
+        taken(Vtl::Zero, 3, 0),
+        taken(Vtl::One, 0, 0),
+        taken(Vtl::One, 1, 1),
+        taken(Vtl::One, 2, 0),
+        taken(Vtl::One, 3, 0),
+        Event::Enter,
+        checked(),
+        told(),
+        Event::Leave,
+    ];
+    assert_eq!(rt; cpu.seen(), events.as_slice());
+    let wanted = [What::Entered, What::Value(0x40), What::Value(0)];
+    assert_eq!(rt; whats(alloc, cpu.marks())?.as_slice(), wanted.as_slice());
+    assert_eq!(rt; cpu.levels().active(), Vtl::One);
+    let bank = cpu.bank();
+    assert_eq!(rt; bank.get(Vtl::Zero, Name::Rip), 2);
+    assert_eq!(rt; bank.get(Vtl::One, Name::Rbx), 0x40);
+    assert_eq!(rt; bank.get(Vtl::One, Name::Rdx), 0);
+    Ok(())
+}
+
+#[test]
+fn a_poll_enters_without_the_page(rt: HostRuntime) -> Result<(), Fail> {
+    let alloc = rt.alloc();
+    let puts = [(Vtl::One, Name::VpAssistPage, 0)];
+    let cpu = after(alloc, &POLLS, &[Op::Eoi; 2], &puts, &FOR_ONE, 1)?;
+    let left = mark(Vtl::Zero, 1, What::Entered, 8);
+    assert_eq!(rt; cpu.marks(), [left].as_slice());
+    assert_eq!(rt; cpu.levels().active(), Vtl::One);
+    assert_eq!(rt; cpu.bank().get(Vtl::Zero, Name::Rip), 2);
+    Ok(())
+}
+
+#[test]
+fn a_poll_enters_for_no_lesser_vector(rt: HostRuntime) -> Result<(), Fail> {
+    let alloc = rt.alloc();
+    // A class that Cr8 keeps off, and vectors that can't be requested.
+    for (cr8, answers) in [(4, FOR_ONE), (0, [0xFFFF, 0, 0, 0, 0xFFFF, 0, 0, 0, ROUND])] {
+        let puts = [(Vtl::One, Name::Cr8, cr8)];
+        let cpu = after(alloc, &POLLS, &[Op::Eoi], &puts, &answers, 1)?;
+        let left = mark(Vtl::Zero, 1, What::Plain, 8);
+        assert_eq!(rt; cpu.marks(), [left].as_slice());
+        assert_eq!(rt; cpu.levels().active(), Vtl::Zero);
+        assert_eq!(rt; cpu.bank().get(Vtl::Zero, Name::Rip), 2);
+    }
+    Ok(())
+}
+
+#[test]
+fn what_a_poll_took_stays_requested(rt: HostRuntime) -> Result<(), Fail> {
+    let alloc = rt.alloc();
+    let zero = [Op::Eoi, Op::Poll, Op::VtlCall, Op::Eoi];
+    let one = [
+        Op::Ack(Name::Rax),
+        Op::Set(Name::Cr8, 3),
+        Op::Ack(Name::Rax),
+        Op::Eoi,
+    ];
+    let puts = [(Vtl::One, Name::Cr8, 4)];
+    let cpu = after(alloc, &zero, &one, &puts, &FOR_ONE, 5)?;
+    let wanted = [
+        What::Plain,
+        What::Plain,
+        What::Value(0),
+        What::Plain,
+        What::Value(0x40),
+    ];
+    assert_eq!(rt; whats(alloc, cpu.marks())?.as_slice(), wanted.as_slice());
+    Ok(())
+}
+
+#[test]
+fn a_poll_of_level_one_enters_nothing(rt: HostRuntime) -> Result<(), Fail> {
+    let alloc = rt.alloc();
+    let zero = [Op::Eoi, Op::VtlCall, Op::Eoi];
+    let one = [Op::Poll, Op::Ack(Name::Rax), Op::Eoi];
+    let answers = [ROUND, 0, 1, 0, 0, 0, 1, 0, 0];
+    let cpu = after(alloc, &zero, &one, &[], &answers, 3)?;
+    let wanted = [What::Plain, What::Plain, What::Value(0x40)];
+    assert_eq!(rt; whats(alloc, cpu.marks())?.as_slice(), wanted.as_slice());
+    assert_eq!(rt; cpu.seen().len(), 12);
+    Ok(())
+}
+
+#[test]
+fn an_end_of_interrupt_lets_an_equal_class_come(rt: HostRuntime) -> Result<(), Fail> {
+    let alloc = rt.alloc();
+    let zero = [
+        Op::Eoi,
+        Op::Poll,
+        Op::Ack(Name::Rax),
+        Op::Ack(Name::Rdx),
+        Op::Eoi,
+        Op::Ack(Name::Rbx),
+        Op::Eoi,
+    ];
+    // Vectors 0x40 and 0x41 of level 0.
+    let answers = [0, 3, 0, 0, 0, 0, 0, 0];
+    let puts = [(Vtl::Zero, Name::Rdx, 7)];
+    let cpu = after(alloc, &zero, &[Op::Eoi], &puts, &answers, 5)?;
+    let wanted = [
+        What::Plain,
+        What::Value(0x41),
+        What::Value(0),
+        What::Plain,
+        What::Value(0x40),
+    ];
+    assert_eq!(rt; whats(alloc, cpu.marks())?.as_slice(), wanted.as_slice());
+    let bank = cpu.bank();
+    assert_eq!(rt; bank.get(Vtl::Zero, Name::Rax), 0x41);
+    assert_eq!(rt; bank.get(Vtl::Zero, Name::Rdx), 0);
+    assert_eq!(rt; bank.get(Vtl::Zero, Name::Rbx), 0x40);
+    Ok(())
+}
+
+#[test]
+fn level_one_takes_the_vector_of_its_message(rt: HostRuntime) -> Result<(), Fail> {
+    let alloc = rt.alloc();
+    let one = [Op::Poll, Op::Ack(Name::Rbx), Op::Eom, Op::Eoi];
+    let program = programs(alloc, &STORES, &one)?;
+    let mut cpu = machine(alloc, &program, Vtl::Zero, OPENING.as_slice())?;
+    let mut fabric = plain(alloc, read_only(), 0)?;
+    let mut port = fabric.port(VpIndex(0));
+    attempts(&mut cpu, &mut port, &program, 4);
+    let ends = whats(alloc, cpu.marks())?;
+    assert_eq!(rt; ends.get(1).copied(), Some(What::Plain));
+    assert_eq!(rt; ends.get(2).copied(), Some(What::Value(0x31)));
+    assert_eq!(rt; ends.get(3).copied(), ended(EomWord::Nothing));
+    assert_eq!(rt; word(&fabric, 0), Some(0x0000_0050_8000_0001));
+    assert_eq!(rt; word(&fabric, 8), Some(0x328));
+    assert_eq!(rt; word(&fabric, 0x65), Some(0));
+    assert_eq!(rt; word(&fabric, 513), Some(2));
+    Ok(())
+}
