@@ -1,5 +1,6 @@
 -- What is left of an attempt where the state of its processor decides.
-use Rattle.std.proofs.Common.{◌≡◌, ◌≢◌, ℕ, Bool, true, false, cond, Option, Some, None, ◌++◌, refl, ap}
+use Rattle.std.proofs.Common.{◌≡◌, ◌≢◌, ℕ, Bool, true, false, cond, Option, Some, None, ◌++◌, refl, ap, ◌∙◌}
+use Rattle.vsm_core.specs.declared.note.Note.{Note}
 use Rattle.vsm_core.specs.Attempt.{by_slot, tells, posting, in_own_access, told_on, left_with}
 use Rattle.vsm_core.specs.Controllers.{message_page}
 use Rattle.vsm_core.specs.Fills.{Cached}
@@ -34,8 +35,15 @@ pub refuses-looks : (enters : Bool) (from : Origin) (r : Refusal) (does : List C
 refuses-looks true from r does slot page e at = ap (refused_by true from r does) at
 refuses-looks false from r does slot page e at = cc
 
+posting-none : (from : Origin) (page : Option ℕ) (note : Note) → posting from page note None ≡ []
+posting-none from None note = refl
+posting-none from (Some page) note = refl
+
 pub refuses-tells : (enters : Bool) (from : Origin) (r : Refusal) (does : List Cached) → enters ≡ true → message_page from.pages from.state ≡ None → refused_by enters from r does (message_page from.pages from.state) ≡ asks_all (told_on (assist_page from.pages from.state) by_interrupt) (left_as does (told_or_held enters from r None))
-refuses-tells true from r does e off = rw off refl
+refuses-tells true from r does e off =
+    let note : Note = note_of from r.gva (refusal_of r) in
+    ap (λ (page : Option ℕ). by_slot page (tells from (refusal_of r) note does)) off
+    ∙ ap (λ steps. asks_all (steps ++ told_on (assist_page from.pages from.state) by_interrupt) (left_as does (told_or_held true from r None))) (posting-none from (message_page from.pages from.state) note)
 refuses-tells false from r does e off = cc
 
 -- a poll that tells this page why it enters
@@ -53,5 +61,5 @@ polls-unwanted false told o p reason e = (p.does, refl)
 
 -- a stage that the state doesn't decide
 pub may-is : (pages number : ℕ) (stage : Stage) → ((case : Case) → stage ≢ Judge case) → StageMay pages number stage → StageIs pages number stage
-may-is pages number (Judge case) no may = absurd (no case refl)
-may-is pages number _ no may = may
+may-is pages number (Judge case) undecided may = absurd (undecided case refl)
+may-is pages number _ undecided may = may

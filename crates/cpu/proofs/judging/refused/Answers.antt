@@ -1,4 +1,4 @@
-use Rattle.std.proofs.Common.{refl, sym, ap, ◌∙◌, Some, None}
+use Rattle.std.proofs.Common.{refl, sym, ap, ◌∙◌, ◌≡◌, Some, None}
 use Rattle.vsm_core.specs.Controllers.{message_page}
 use Rattle.vsm_core.specs.Outcomes.{Origin}
 use Rattle.vsm_core.specs.Switch.{may_enter}
@@ -20,4 +20,5 @@ returns-in-Some-clause-rest c = λ op tree r.
 pub returns-in-None-clause-rest : goal.returns-in-None-clause-rest
 returns-in-None-clause-rest c = λ op tree r.
     let from : Origin = origin_at c.args.pages c.args.vp.0 c.args.bank.now c.args.levels.now c.args.controllers.now in
-    (r.0, r.1 ∙ ?)
+    let off : message_page from.pages from.state ≡ None = sym c.message_page.ensures.page ∙ ap number_of c.in-None.is in
+    rw (c.inside.ensures, c.nothing-plan.ensures.steps, c.assist_page-told.ensures.page) (r.0, r.1 ∙ refuses-tells (may_enter from.state) from c.args.refusal r.0 (sym c.may_enter.ensures.lawful ∙ c.if-not-may_enter.false) off)
