@@ -7,6 +7,7 @@ pub mod Ops
 pub mod Planned
 pub mod Polls
 pub mod Judged
+pub mod Marking
 pub mod Rests
 pub mod Steps
 pub mod Turning

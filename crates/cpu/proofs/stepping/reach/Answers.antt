@@ -1,4 +1,5 @@
-use Rattle.std.proofs.Common.{◌≡◌}
+use Rattle.std.proofs.Common.{◌≡◌, ap}
+use Rattle.access_path.specs.declared.aim.Aim.{Aim}
 use Rattle.cpu.specs.Stages.{StageRest}
 use Rattle.access_path.specs.Rest.{Goes}
 use Rattle.cpu.proofs.Steps.{Turned-then_}
