@@ -4,6 +4,10 @@ pub mod Spins
 pub mod Lists
 pub mod Openings
 pub mod Ops
+pub mod Planned
+pub mod Polls
+pub mod Judged
+pub mod Marking
 pub mod Rests
 pub mod Steps
 pub mod Turning

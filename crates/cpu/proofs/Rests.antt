@@ -1,5 +1,5 @@
 -- What is left of an attempt at its stages.
-use Rattle.std.proofs.Common.{◌≡◌, ◌≢◌, ◌∙◌, ℕ, ◌==◌, ◌&&◌, Bool, true, false, cond, Option, Some, None, List, [], ◌∷◌, refl, sym, ap}
+use Rattle.std.proofs.Common.{◌≡◌, ◌≢◌, ◌∙◌, ◌<◌, ℕ, ◌==◌, ◌&&◌, Bool, true, false, cond, Option, Some, None, List, [], ◌∷◌, refl, sym, ap}
 use Rattle.vsm_base.specs.declared.places.Access.{Access}
 use Rattle.vsm_base.specs.declared.places.Access.TheVariants.{Read, Write, Execute}
 use Rattle.vsm_core.specs.declared.mark.Grant.{Grant}
@@ -10,30 +10,38 @@ use Rattle.vsm_core.specs.declared.mark.What.{What}
 use Rattle.vsm_core.specs.declared.mark.What.TheVariants as whats
 use Rattle.vsm_core.specs.declared.mark.What.TheVariants.{Again}
 use Rattle.vsm_core.specs.declared.operation.Op.{Op}
-use Rattle.vsm_core.specs.declared.operation.Op.TheVariants.{Set, Get, Load, Store, Exec, Spin, Jump, JumpNe, VtlCall, VtlReturn}
+use Rattle.vsm_core.specs.declared.operation.Op.TheVariants.{Set, Get, Load, Store, Exec, Spin, Jump, JumpNe, VtlCall, VtlReturn, Poll}
+use Rattle.vsm_core.specs.declared.operation.Op.TheVariants as ops
+use Rattle.vsm_core.specs.declared.mark.EomWord.TheVariants as eoms
+use Rattle.vsm_core.specs.declared.note.Note.{Note}
 use Rattle.vsm_core.specs.Access.{Goal, Decision, data_step, access}
-use Rattle.vsm_core.specs.Attempt.{Outcome, attempt, begun, faulted, goal_of, loaded, passed, spun, set_outcome, get_outcome, empties, enters, returns}
-use Rattle.vsm_core.specs.Fills.{Fill}
+use Rattle.vsm_core.specs.Attempt.{attempt, begun, left_with, goal_of, in_own_access, told_on, returns, eom_on, is_wanted, wanted_outcome, unwanted_outcome}
+use Rattle.vsm_core.specs.Controllers.{Controllers, message_page, eom_by, waiting_then, with_taken}
+use Rattle.vsm_core.specs.Fills.{Cached, Fill}
+use Rattle.vsm_core.specs.Outcomes.{Origin, Outcome, outcome_at, faulted, plain, loaded, passed, spun, set_outcome, get_outcome, empties, note_of, denied_outcome, held_outcome, eom_outcome}
 use Rattle.vsm_core.specs.Processor.{Vp, came_to, marked, settled}
 use Rattle.vsm_core.specs.Registers.{is_legal}
 use Rattle.vsm_core.specs.State.{State, operand, gone_on, may_name, get, put}
-use Rattle.vsm_core.specs.Switch.{may_call, may_return, called, returned, assist_page, restored_from, by_call}
-use Rattle.vsm_core.specs.Tree.{Tree, Ends, Asks, WordStep, then_, follow}
+use Rattle.vsm_core.specs.Switch.{may_call, may_return, may_enter, called, returned, is_zero, assist_page, restored_from, by_call}
+use Rattle.vsm_core.specs.Tree.{Tree, Ends, Asks, WordStep, then_, asks_all, follow}
 use Rattle.access_path.specs.declared.aim.Aim.{Aim}
 use Rattle.access_path.specs.declared.place.Place.{Place}
 use Rattle.access_path.specs.declared.place.Place.TheVariants.{Start, Check, TableMask, TableRead, DataMask, Data, Over}
 use Rattle.access_path.specs.Rest.{Rest}
-use Rattle.cpu.specs.declared.operations.Decided.{Decided}
-use Rattle.cpu.specs.declared.operations.Decided.TheVariants as decisions
+use Rattle.cpu.specs.declared.decided.Decided.{Decided}
+use Rattle.cpu.specs.declared.decided.Decided.TheVariants as decisions
 use Rattle.cpu.specs.declared.stage.Stage.{Stage}
-use Rattle.cpu.specs.declared.stage.Stage.TheVariants.{Reach, Touch, Leave, End}
+use Rattle.cpu.specs.declared.decided.Refusal.{Refusal}
+use Rattle.cpu.specs.declared.stage.Stage.TheVariants.{Reach, Take, Judge, Touch, Leave, End}
+use Rattle.cpu.specs.declared.task.Taken.{Taken}
 use Rattle.cpu.specs.declared.task.Gate.{Gate}
 use Rattle.cpu.specs.declared.task.Gate.TheVariants.{Outside, Entered, Inside}
 use Rattle.cpu.specs.declared.task.Task.{Task}
-use Rattle.cpu.specs.declared.task.Task.TheVariants.{Tell, Rax, Rcx}
-use Rattle.cpu.specs.Results.{EndsAs, again_of, granted_of, local_outcome, outcome, result_of, switched}
-use Rattle.cpu.specs.Tasks.{gate_rest, task_rest}
-use Rattle.cpu.specs.Stages.{StageRest, is_going}
+use Rattle.cpu.specs.declared.task.Task.TheVariants.{Look, Make, Rax, Rcx}
+use Rattle.cpu.specs.Results.{EndsAs, again_of, granted_of, local_outcome, polled_outcome, refusal_of, result_of, switched, told_or_held, with_does}
+use Rattle.cpu.specs.Tasks.{gate_rest, plan_steps, task_rest, taking_rest}
+use Rattle.cpu.specs.Stages.{StageIs, StageRest, is_going}
+use Rattle.cpu.proofs.Polls.{next-taken}
 
 -- a step is next
 abbrev pub IsAsking : {A : Type 0} → Tree A → Type 0
@@ -56,10 +64,18 @@ Rest-asks aim Over t h = absurd h
 then_-asks : {A B : Type 0} (t : Tree A) (f : A → Tree B) → IsAsking t → IsAsking (then_ t f)
 then_-asks t f a = rw a.2 (_, _, refl)
 
-task-asks : (state : State) (op : Op) (task : Task) → IsAsking (task_rest state op task)
-task-asks state op (Tell page index word decided) = (_, _, refl)
-task-asks state op (Rax page) = (_, _, refl)
-task-asks state op (Rcx page rax) = (_, _, refl)
+asks_all-asks : (steps : List WordStep) (o : Outcome) → IsAsking (asks_all steps (left_with o))
+asks_all-asks [] o = (_, _, refl)
+asks_all-asks (s ∷ steps) o = (_, _, refl)
+
+task-asks : (from : Origin) (op : Op) (does : List Cached) (task : Task) → IsAsking (task_rest from op does task)
+task-asks from op does (Look page matter) = (_, _, refl)
+task-asks from op does (Make plan decided) = asks_all-asks (plan_steps plan) _
+task-asks from op does (Rax page) = (_, _, refl)
+task-asks from op does (Rcx page rax) = (_, _, refl)
+
+taking-asks : (from : Origin) (taken : Taken) → taken.count < 8 → IsAsking (taking_rest from taken)
+taking-asks from taken low = rw (next-taken taken.count low) (_, _, refl)
 
 gate-asks : (gate : Gate) (inside : Tree Outcome) → IsAsking inside → IsAsking (gate_rest gate inside)
 gate-asks Outside inside a = (_, _, refl)
@@ -67,11 +83,13 @@ gate-asks Entered inside a = (_, _, refl)
 gate-asks Inside inside a = a
 
 -- a step is next at a stage from which one is made
-pub stage-asks : (state : State) (op : Op) (stage : Stage) (tree : Tree Outcome) → StageRest state op stage tree → ((decided : Decided) → stage ≢ End decided) → IsAsking tree
-stage-asks state op (Reach path) tree r not_end = rw r.2 (then_-asks r.0 _ (Rest-asks path.aim path.place r.0 r.1))
-stage-asks state op (Touch gate task) tree r not_end = rw r (gate-asks gate (task_rest state op task) (task-asks state op task))
-stage-asks state op (Leave decided) tree r not_end = (_, _, r.1)
-stage-asks state op (End decided) tree r not_end = absurd (not_end decided refl)
+pub stage-asks : (from : Origin) (op : Op) (stage : Stage) (tree : Tree Outcome) → StageIs from.pages from.number stage → StageRest from op stage tree → ((decided : Decided) → stage ≢ End decided) → IsAsking tree
+stage-asks from op (Reach path) tree is r not_end = rw r.2 (then_-asks r.0 _ (Rest-asks path.aim path.place r.0 r.1))
+stage-asks from op (Take taken) tree is r not_end = rw r (taking-asks from taken is)
+stage-asks from op (Judge case) tree is r not_end = absurd is
+stage-asks from op (Touch gate task) tree is r not_end = rw r.1 (gate-asks gate (task_rest from op r.0 task) (task-asks from op r.0 task))
+stage-asks from op (Leave decided) tree is r not_end = (_, _, r.1)
+stage-asks from op (End decided) tree is r not_end = absurd (not_end decided refl)
 
 -- no end that it has at once is a spin's that found another value
 abbrev pub NoAgain : Tree Outcome → Type 0
@@ -82,41 +100,57 @@ NoAgain-cond : (b : Bool) (o p : Outcome) → NoAgain (Ends o) → NoAgain (Ends
 NoAgain-cond true o p h g = h
 NoAgain-cond false o p h g = g
 
-begun-no-again : (state : State) (granted : Grant → What × State) (goal : Goal) (fault : Option GuestFault) → NoAgain (begun state granted goal fault)
-begun-no-again state granted goal (Some fault) = λ grant e. cc
-begun-no-again state granted goal None = tt
+begun-no-again : (from : Origin) (granted : Grant → What × State) (goal : Goal) (fault : Option GuestFault) → NoAgain (begun from granted goal fault)
+begun-no-again from granted goal (Some fault) = λ grant e. cc
+begun-no-again from granted goal None = tt
 
-set-no-again : (state : State) (name : Name) (value : ℕ) → NoAgain (Ends (set_outcome state name value))
-set-no-again state name value =
-    NoAgain-cond (may_name state name && is_legal name value) (record { what = whats.Plain; state = gone_on (put state name value); does = empties state.active name }) (faulted state Gp) (λ grant e. cc) (λ grant e. cc)
+set-no-again : (from : Origin) (name : Name) (value : ℕ) → NoAgain (Ends (set_outcome from name value))
+set-no-again from name value =
+    NoAgain-cond (may_name from.state name && is_legal name value) (outcome_at from whats.Plain (gone_on (put from.state name value)) (empties from.state.active name)) (faulted from Gp) (λ grant e. cc) (λ grant e. cc)
 
-get-no-again : (state : State) (name : Name) → NoAgain (Ends (get_outcome state name))
-get-no-again state name = NoAgain-cond (may_name state name) (record { what = whats.Value (get state name); state = gone_on state; does = [] }) (faulted state Gp) (λ grant e. cc) (λ grant e. cc)
+get-no-again : (from : Origin) (name : Name) → NoAgain (Ends (get_outcome from name))
+get-no-again from name = NoAgain-cond (may_name from.state name) (outcome_at from (whats.Value (get from.state name)) (gone_on from.state) []) (faulted from Gp) (λ grant e. cc) (λ grant e. cc)
 
 NoAgain-tree : (b : Bool) (t u : Tree Outcome) → NoAgain t → NoAgain u → NoAgain (cond b t u)
 NoAgain-tree true t u h g = h
 NoAgain-tree false t u h g = g
 
-enters-no-again : (told : Option ℕ) (state : State) → NoAgain (enters told by_call state)
-enters-no-again None state = λ grant e. cc
-enters-no-again (Some page) state = tt
+told-no-again : (told : Option ℕ) (reason : ℕ) (from : Origin) (state : State) → NoAgain (in_own_access (told_on told reason) (plain from state))
+told-no-again None reason from state = λ grant e. cc
+told-no-again (Some page) reason from state = tt
 
-returns-no-again : (from : Option ℕ) (state : State) → NoAgain (returns from state)
-returns-no-again None state = λ grant e. cc
-returns-no-again (Some page) state = tt
+returns-no-again : (from : Origin) (given : Option ℕ) → NoAgain (returns from given)
+returns-no-again from None = λ grant e. cc
+returns-no-again from (Some page) = tt
 
-pub attempt-no-again : (pages : ℕ) (state : State) (op : Op) → NoAgain (attempt pages state op)
-attempt-no-again pages state (Set name value) = set-no-again state name value
-attempt-no-again pages state (Get name) = get-no-again state name
-attempt-no-again pages state (Load name gva) = begun-no-again state (loaded state name) (goal_of pages state Read true gva.0 0) _
-attempt-no-again pages state (Store gva what) = begun-no-again state (passed state) (goal_of pages state Write true gva.0 (operand state what)) _
-attempt-no-again pages state (Exec gva) = begun-no-again state (passed state) (goal_of pages state Execute false gva.0 0) _
-attempt-no-again pages state (Spin gva value) = begun-no-again state (spun state value) (goal_of pages state Read true gva.0 0) _
-attempt-no-again pages state (Jump rip) = λ grant e. cc
-attempt-no-again pages state (JumpNe name value rip) = λ grant e. cc
-attempt-no-again pages state VtlCall = NoAgain-tree (may_call state) (enters (assist_page pages state) by_call (called state)) (Ends (faulted state Undefined)) (enters-no-again (assist_page pages state) (called state)) (λ grant e. cc)
-attempt-no-again pages state VtlReturn = NoAgain-tree (may_return state) (returns (restored_from pages state) state) (Ends (faulted state Undefined)) (returns-no-again (restored_from pages state) state) (λ grant e. cc)
-attempt-no-again pages state _ = λ grant e. cc
+eom-outcome-stays : (from : Origin) (slot : Option ℕ) → NoAgain (Ends (eom_outcome from slot))
+eom-outcome-stays from slot =
+    NoAgain-cond (is_zero from.state.active) (outcome_at from (whats.Eom eoms.Nothing) (gone_on from.state) []) (record {
+      what = whats.Eom (eom_by slot from.controllers.waiting);
+      state = gone_on from.state;
+      controllers = record from.controllers { waiting = waiting_then slot from.controllers.waiting };
+      does = [];
+    }) (λ grant e. cc) (λ grant e. cc)
+
+eom_on-no-again : (from : Origin) (slot : Option ℕ) (waiting : List Note) → NoAgain (eom_on from slot waiting)
+eom_on-no-again from None waiting = eom-outcome-stays from None
+eom_on-no-again from (Some page) [] = eom-outcome-stays from None
+eom_on-no-again from (Some page) (note ∷ more) = tt
+
+pub attempt-no-again : (from : Origin) (op : Op) → NoAgain (attempt from op)
+attempt-no-again from (Set name value) = set-no-again from name value
+attempt-no-again from (Get name) = get-no-again from name
+attempt-no-again from (Load name gva) = begun-no-again from (loaded from.state name) (goal_of from.pages from.state Read true gva.0 0) _
+attempt-no-again from (Store gva what) = begun-no-again from (passed from.state) (goal_of from.pages from.state Write true gva.0 (operand from.state what)) _
+attempt-no-again from (Exec gva) = begun-no-again from (passed from.state) (goal_of from.pages from.state Execute false gva.0 0) _
+attempt-no-again from (Spin gva value) = begun-no-again from (spun from.state value) (goal_of from.pages from.state Read true gva.0 0) _
+attempt-no-again from (Jump rip) = λ grant e. cc
+attempt-no-again from (JumpNe name value rip) = λ grant e. cc
+attempt-no-again from VtlCall = NoAgain-tree (may_call from.state) (in_own_access (told_on (assist_page from.pages from.state) by_call) (plain from (called from.state))) (Ends (faulted from Undefined)) (told-no-again (assist_page from.pages from.state) by_call from (called from.state)) (λ grant e. cc)
+attempt-no-again from VtlReturn = NoAgain-tree (may_return from.state) (returns from (restored_from from.pages from.state)) (Ends (faulted from Undefined)) (returns-no-again from (restored_from from.pages from.state)) (λ grant e. cc)
+attempt-no-again from Poll = tt
+attempt-no-again from ops.Eom = NoAgain-tree (is_zero from.state.active) (Ends (eom_outcome from None)) (eom_on from (message_page from.pages from.state) from.controllers.waiting) (eom-outcome-stays from None) (eom_on-no-again from (message_page from.pages from.state) from.controllers.waiting)
+attempt-no-again from _ = λ grant e. cc
 
 follow-Ends : {A : Type 0} (a : A) (xs : List ℕ) → follow (Ends a) xs ≡ Ends a
 follow-Ends a [] = refl
@@ -132,8 +166,8 @@ ends-again tree answers o p grant never ends again e =
     no_p grant (ap (λ (z : Outcome). z.what) same ∙ again)
 
 -- an attempt whose spin found another value has a first step
-pub again-asks : (pages : ℕ) (state : State) (op : Op) (answers : List ℕ) (o p : Outcome) (grant : Grant) → follow (attempt pages state op) answers ≡ Ends o → o.what ≡ Again grant → attempt pages state op ≢ Ends p
-again-asks pages state op answers o p grant ends again e = ends-again (attempt pages state op) answers o p grant (attempt-no-again pages state op) ends again e
+pub again-asks : (from : Origin) (op : Op) (answers : List ℕ) (o p : Outcome) (grant : Grant) → follow (attempt from op) answers ≡ Ends o → o.what ≡ Again grant → attempt from op ≢ Ends p
+again-asks from op answers o p grant ends again e = ends-again (attempt from op) answers o p grant (attempt-no-again from op) ends again e
 
 same-some : {A : Type 0} (a b : A) → Some a ≡ Some b → a ≡ b
 same-some a b e = cc
@@ -153,45 +187,60 @@ spin-stays : (b : Bool) (now state : State) (found grant : Grant) → cond b Non
 spin-stays true now state found grant e = λ h. cc
 spin-stays false now state found grant e = λ h. cc
 
--- what another value that a spin found comes to
-pub result-again : (state : State) (op : Op) (decided : Decided) (grant : Grant) → again_of op decided ≡ Some grant → result_of state op decided ≡ again_result state grant
-result-again state (Spin gva value) (decisions.Granted found) grant e = spin-again (found.value == value) (gone_on state) state found grant e
-result-again state (Spin gva value) _ grant e = cc
-result-again state _ _ grant e = cc
+-- an operation whose spin found another value is no poll
+pub again-spins : (op : Op) (decided : Decided) (grant : Grant) → again_of op decided ≡ Some grant → op ≢ Poll
+again-spins (Spin gva value) decided grant e = λ h. cc
+again-spins _ decided grant e = λ h. cc
 
-local-stays : (state : State) (op : Op) → NoAgain (Ends (local_outcome state op))
-local-stays state (Set name value) = set-no-again state name value
-local-stays state (Get name) = get-no-again state name
-local-stays state _ = λ grant e. cc
+abbrev at_result : Origin → What × State → Outcome
+at_result from r = outcome_at from r.0 r.1 []
+
+-- what another value that a spin found comes to
+pub result-again : (from : Origin) (op : Op) (decided : Decided) (grant : Grant) → again_of op decided ≡ Some grant → result_of from op decided ≡ outcome_at from (Again grant) from.state []
+result-again from (Spin gva value) (decisions.Granted found) grant e = ap (at_result from) (spin-again (found.value == value) (gone_on from.state) from.state found grant e)
+result-again from (Spin gva value) _ grant e = cc
+result-again from _ _ grant e = cc
+
+local-stays : (from : Origin) (op : Op) → NoAgain (Ends (local_outcome from op))
+local-stays from (Set name value) = set-no-again from name value
+local-stays from (Get name) = get-no-again from name
+local-stays from _ = λ grant e. cc
 
 granted-stays : (state : State) (op : Op) (found grant : Grant) → again_of op (decisions.Granted found) ≡ None → (granted_of state op found).0 ≢ Again grant
 granted-stays state (Spin gva value) found grant e = spin-stays (found.value == value) (gone_on state) state found grant e
 granted-stays state _ found grant e = λ h. cc
 
-switched-stays : (lawful : Bool) (before after : State) (grant : Grant) → (switched lawful before after).0 ≢ Again grant
-switched-stays true before after grant = λ h. cc
-switched-stays false before after grant = λ h. cc
+switched-stays : (lawful : Bool) (from : Origin) (after : State) → NoAgain (Ends (switched lawful from after))
+switched-stays lawful from after = NoAgain-cond lawful (plain from after) (faulted from Undefined) (λ grant e. cc) (λ grant e. cc)
+
+denied-stays : (enters : Bool) (from : Origin) (r : Refusal) (slot : Option ℕ) → NoAgain (Ends (told_or_held enters from r slot))
+denied-stays enters from r slot =
+    NoAgain-cond enters (denied_outcome from (refusal_of r) (note_of from r.gva (refusal_of r)) slot []) (held_outcome from (refusal_of r) []) (λ grant e. cc) (λ grant e. cc)
+
+polled-stays : (state : State) (controllers : Controllers) → NoAgain (Ends (polled_outcome state controllers))
+polled-stays state controllers =
+    NoAgain-cond (is_wanted state controllers) (wanted_outcome state controllers) (unwanted_outcome state controllers) (λ grant e. cc) (λ grant e. cc)
 
 -- anything else
-pub result-stays : (state : State) (op : Op) (decided : Decided) (grant : Grant) → again_of op decided ≡ None → (result_of state op decided).0 ≢ Again grant
-result-stays state op decisions.Local grant e = local-stays state op grant
-result-stays state op (decisions.Granted found) grant e = granted-stays state op found grant e
-result-stays state op (decisions.Denied page mask generation access) grant e = λ h. cc
-result-stays state op (decisions.Fault fault) grant e = λ h. cc
-result-stays state op decisions.Called grant e = switched-stays (may_call state) state (called state) grant
-result-stays state op (decisions.Returned pair) grant e = switched-stays (may_return state) state (returned state pair) grant
+pub result-stays : (from : Origin) (op : Op) (decided : Decided) (grant : Grant) → again_of op decided ≡ None → (result_of from op decided).what ≢ Again grant
+result-stays from op decisions.Local grant e = local-stays from op grant
+result-stays from op (decisions.Granted found) grant e = granted-stays from.state op found grant e
+result-stays from op (decisions.Denied r slot) grant e = denied-stays (may_enter from.state) from r slot grant
+result-stays from op (decisions.Fault fault) grant e = λ h. cc
+result-stays from op decisions.Called grant e = switched-stays (may_call from.state) from (called from.state) grant
+result-stays from op (decisions.Returned pair) grant e = switched-stays (may_return from.state) from (returned from.state pair) grant
+result-stays from op (decisions.Polled found) grant e = polled-stays from.state (with_taken from.controllers found) grant
+result-stays from op (decisions.Eom slot) grant e = eom-outcome-stays from slot grant
 
 came-marked : (what : What) (v : Vp) (o : Outcome) → ((grant : Grant) → what ≢ Again grant) → came_to what v o ≡ marked v o
 came-marked (Again grant) v o h = absurd (h grant refl)
 came-marked _ v o h = refl
 
-pub settled-marked : (v : Vp) (tree : Tree Outcome) (state : State) (op : Op) (decided : Decided) → EndsAs tree (result_of state op decided) → again_of op decided ≡ None → marked v (outcome (result_of state op decided)) ≡ settled tree v
-settled-marked v tree state op decided ends none =
-    rw ends.1 (sym (came-marked (result_of state op decided).0 v (record { what = (result_of state op decided).0; state = (result_of state op decided).1; does = ends.0 }) (λ grant. result-stays state op decided grant none)))
+pub settled-marked : (v : Vp) (tree : Tree Outcome) (from : Origin) (op : Op) (decided : Decided) → EndsAs tree (result_of from op decided) → again_of op decided ≡ None → marked v (result_of from op decided) ≡ settled tree v
+settled-marked v tree from op decided ends none =
+    rw ends.1 (sym (came-marked (result_of from op decided).what v (with_does ends.0 (result_of from op decided)) (λ grant. result-stays from op decided grant none)))
 
 -- a stage from which no step is made
-pub going-ends : (state : State) (op : Op) (stage : Stage) (tree : Tree Outcome) → is_going stage ≡ false → StageRest state op stage tree → (o : Outcome) × (tree ≡ Ends o)
-going-ends state op (Reach path) tree going rest = cc
-going-ends state op (Touch gate task) tree going rest = cc
-going-ends state op (Leave decided) tree going rest = cc
-going-ends state op (End decided) tree going rest = (_, rest.1)
+pub going-ends : (from : Origin) (op : Op) (stage : Stage) (tree : Tree Outcome) → is_going stage ≡ false → StageRest from op stage tree → (o : Outcome) × (tree ≡ Ends o)
+going-ends from op (End decided) tree going rest = (_, rest.1)
+going-ends from op _ tree going rest = cc

@@ -7,8 +7,9 @@ use Rattle.vsm_core.specs.declared.mark.What.{What}
 use Rattle.vsm_core.specs.declared.mark.What.TheVariants as whats
 use Rattle.vsm_core.specs.declared.operation.Op.{Op}
 use Rattle.vsm_core.specs.declared.request.Reply.{Reply}
-use Rattle.vsm_core.specs.Attempt.{Outcome, attempt, most_steps}
-use Rattle.vsm_core.specs.Processor.{Vp, answers_of, came_to, ending_after, marked_or_ended, rest_of, settled, standing}
+use Rattle.vsm_core.specs.Attempt.{attempt, most_steps, most_steps_of}
+use Rattle.vsm_core.specs.Outcomes.{Origin, Outcome}
+use Rattle.vsm_core.specs.Processor.{Vp, answers_of, origin_of, came_to, ending_after, marked_or_ended, rest_of, settled, standing}
 use Rattle.vsm_core.specs.Seat.{Seat, Makes}
 use Rattle.vsm_core.specs.State.{State}
 use Rattle.vsm_core.specs.Steps.{made, phase_after}
@@ -19,29 +20,55 @@ use Rattle.cpu.specs.declared.cpu_turn.CpuTurn.{CpuTurn}
 use Rattle.cpu.specs.declared.stage.StageStep.{StageStep}
 use Rattle.cpu.specs.declared.stage.Under.{Under}
 use Rattle.cpu.specs.Logs.{first_by, seen_by}
-use Rattle.cpu.specs.Stages.{StageRest, StageSteps, IsTidy, IsUnderWay, Means, op_of}
+use Rattle.vsm_core.specs.declared.event.Phase.{Phase}
+use Rattle.cpu.specs.declared.stage.Stage.{Stage}
+use Rattle.cpu.specs.Stages.{StageIs, StageMay, StageAt, StageRest, StageSteps, IsTidy, IsUnderWay, Means, op_of}
 use Rattle.cpu.specs.Turns.{TurnsBy, answer_at, phase_at}
 use Rattle.cpu.proofs.Rests.{NoAgain, attempt-no-again}
 use Rattle.cpu.proofs.Attempts.{none-seen}
 use Rattle.cpu.proofs.Seen.{own-by, answers-by, phase-by, saw-by, saw_so}
 use Rattle.cpu.proofs.Steps.{tidy-step}
 
--- an attempt of this operation is under way where an event more has led
-abbrev pub UnderBy : ℕ → State → Op → StageStep → List Event → ℕ → ℕ → Event → Type 0
-UnderBy count state op step seen part first e = IsUnderWay count state (record { op = op; stage = step.stage }) (seen_by seen part first e) part (first_by part first e)
+-- an attempt of this operation is at a stage where these events of its own have led
+pub record IsLed (from : Origin) (op : Op) (stage : Stage) (seen : List Event) (part first : ℕ) : Type 0 where
+  pub may : StageMay from.pages from.number stage
+  pub rest : StageRest from op stage (follow (attempt from op) (answers_of seen first))
+  pub counts : Counts most_steps (length (drop first seen)) (follow (attempt from op) (answers_of seen first))
+  pub phase : StageAt stage (phase_at seen first)
+  pub tidy : IsTidy part first stage (phase_at seen first)
+
+-- the attempt goes on from another stage, which the state has decided
+pub record GoesOnFrom (from : Origin) (op : Op) (stage next : Stage) : Type 0 where
+  pub is : StageIs from.pages from.number next
+  pub rest : (tree : Tree Outcome) → StageRest from op stage tree → StageRest from op next tree
+  pub at : (phase : Phase) → StageAt stage phase → StageAt next phase
+  pub tidy : (part first : ℕ) (phase : Phase) → IsTidy part first stage phase → IsTidy part first next phase
+
+pub led-under : (from : Origin) (op : Op) (stage next : Stage) (seen : List Event) (part first : ℕ) → IsLed from op stage seen part first → GoesOnFrom from op stage next → IsUnderWay from (record { op = op; stage = next }) seen part first
+led-under from op stage next seen part first led on = record {
+  is = on.is;
+  rest = on.rest _ led.rest;
+  counts = led.counts;
+  phase = on.at _ led.phase;
+  tidy = on.tidy part first _ led.tidy;
+}
+
+-- an event more has led there
+abbrev pub LedBy : Origin → Op → StageStep → List Event → ℕ → ℕ → Event → Type 0
+LedBy from op step seen part first e = IsLed from op step.stage (seen_by seen part first e) part (first_by part first e)
 
 -- what a step did to the attempt under way
-pub record Stepped (count : ℕ) (state : State) (op : Op) (seen : List Event) (part first : ℕ) (old new : Seat) (step : StageStep) : Type 0 where
+pub record Stepped (from : Origin) (op : Op) (seen : List Event) (part first : ℕ) (old new : Seat) (step : StageStep) : Type 0 where
   pub s : WordStep
   pub x : ℕ
   pub k : ℕ → Tree Outcome
-  pub asks : follow (attempt count state op) (answers_of seen first) ≡ Asks s k
+  pub asks : follow (attempt from op) (answers_of seen first) ≡ Asks s k
   pub makes : Makes old s x new
   pub event : step.event ≡ made s x
-  pub few : length (seen_by seen part first step.event) ≤ first_by part first step.event + 13
-  pub more : follow (attempt count state op) (answers_of (seen_by seen part first (made s x)) (first_by part first (made s x))) ≡ k x
+  pub few : length (seen_by seen part first step.event) ≤ first_by part first step.event + 27
+  pub more : follow (attempt from op) (answers_of (seen_by seen part first (made s x)) (first_by part first (made s x))) ≡ k x
   pub phase : phase_at (seen_by seen part first step.event) (first_by part first step.event) ≡ new.phase
-  pub under : UnderBy count state op step seen part first step.event
+  pub led : LedBy from op step seen part first step.event
 
 turned-asks : {A : Type 0} (t : Tree A) (old new : Seat) (Q : Tree A → Type 0) → Turned t old new Q → (s : WordStep) × (x : ℕ) × (k : ℕ → Tree A) × (t ≡ Asks s k) × Makes old s x new × Q (k x)
 turned-asks (Ends a) old new Q h = absurd h
@@ -54,26 +81,26 @@ same-some a b e = cc
 some-reply : Reply
 some-reply = record { status = record { 0 = 0 }; done = 0; value = 0; context = None }
 
-pub stepped : (count : ℕ) (state : State) (u : Under) (seen : List Event) (part first : ℕ) (old new : Seat) (step : StageStep) → part ≤ first → first ≤ length seen → old.phase ≡ phase_at seen first → IsUnderWay count state u seen part first → StageSteps u.stage old new step
-    → Stepped count state u.op seen part first old new step
-stepped count state u seen part first old new step low le phase way steps =
-    let t = turned-asks (follow (attempt count state u.op) (answers_of seen first)) old new (StageRest state u.op step.stage) (steps.turned state u.op _ way.rest) in
+pub stepped : (from : Origin) (u : Under) (seen : List Event) (part first : ℕ) (old new : Seat) (step : StageStep) → part ≤ first → first ≤ length seen → old.phase ≡ phase_at seen first → IsUnderWay from u seen part first → StageSteps u.stage old new step
+    → Stepped from u.op seen part first old new step
+stepped from u seen part first old new step low le phase way steps =
+    let t = turned-asks (follow (attempt from u.op) (answers_of seen first)) old new (StageRest from u.op step.stage) (steps.turned from u.op _ way.rest) in
     let event : step.event ≡ made t.0 t.1 = same-some _ _ (sym steps.event ∙ ap (λ (z : Seat). z.last) t.4.after) in
     let counts : Counts most_steps (suc (length (drop first seen))) (t.2 t.1) = Counts-asks most_steps _ t.0 t.2 _ t.1 t.3 way.counts in
-    let few : suc (length (drop first seen)) ≤ 13 = Counts-most most_steps 13 some-reply _ (t.2 t.1) most_steps-few counts in
+    let few : suc (length (drop first seen)) ≤ 27 = Counts-most most_steps 27 some-reply _ (t.2 t.1) most_steps-few counts in
     let answers : answers_of (seen_by seen part first (made t.0 t.1)) (first_by part first (made t.0 t.1)) ≡ answers_of seen first ++ t.1 ∷ [] = answers-by seen part first (made t.0 t.1) low le ∙ ap (λ z. answers_of seen first ++ z ∷ []) t.4.learns in
-    let more : follow (attempt count state u.op) (answers_of (seen_by seen part first (made t.0 t.1)) (first_by part first (made t.0 t.1))) ≡ t.2 t.1 =
-    rw answers (follow-append (attempt count state u.op) (answers_of seen first) t.1 ∙ ap (λ tree. after tree t.1) t.3) in
+    let more : follow (attempt from u.op) (answers_of (seen_by seen part first (made t.0 t.1)) (first_by part first (made t.0 t.1))) ≡ t.2 t.1 =
+    rw answers (follow-append (attempt from u.op) (answers_of seen first) t.1 ∙ ap (λ tree. after tree t.1) t.3) in
     let own : length (drop (first_by part first (made t.0 t.1)) (seen_by seen part first (made t.0 t.1))) ≡ suc (length (drop first seen)) = omega (arith, ap length (own-by seen part first (made t.0 t.1) low le), length-append (drop first seen) (made t.0 t.1 ∷ [])) in
-    let room : length (seen_by seen part first (made t.0 t.1)) ≤ first_by part first (made t.0 t.1) + 13 = omega (arith, few, own, length-drop (first_by part first (made t.0 t.1)) (seen_by seen part first (made t.0 t.1))) in
+    let room : length (seen_by seen part first (made t.0 t.1)) ≤ first_by part first (made t.0 t.1) + 27 = omega (arith, few, own, length-drop (first_by part first (made t.0 t.1)) (seen_by seen part first (made t.0 t.1))) in
     let now : new.phase ≡ phase_after (phase_at seen first) t.0 t.1 = ap (λ (z : Seat). z.phase) t.4.after ∙ ap (λ p. phase_after p t.0 t.1) phase in
     let phase_now : phase_at (seen_by seen part first (made t.0 t.1)) (first_by part first (made t.0 t.1)) ≡ new.phase = phase-by seen part first t.0 t.1 low le ∙ sym now in
-    let under : UnderBy count state u.op step seen part first (made t.0 t.1) = record {
-      is = steps.is count way.is;
+    let led : LedBy from u.op step seen part first (made t.0 t.1) = record {
+      may = steps.is from.pages from.number way.is;
       rest = rw more t.5;
       counts = rw (own, more) counts;
       phase = rw phase_now steps.at;
-      tidy = subst (λ p. IsTidy part (first_by part first (made t.0 t.1)) step.stage p) (sym phase_now) (tidy-step part first t.0 t.1 u.stage step.stage (phase_at seen first) new.phase now steps.goes steps.at way.tidy);
+      tidy = subst (λ p. IsTidy part (first_by part first (made t.0 t.1)) step.stage p) (sym phase_now) (tidy-step part first t.0 t.1 u.stage step.stage (phase_at seen first) new.phase now steps.goes way.phase steps.at way.tidy);
     } in
     record {
       s = t.0;
@@ -82,14 +109,14 @@ stepped count state u seen part first old new step low le phase way steps =
       asks = t.3;
       makes = t.4;
       event = event;
-      few = subst (λ e. length (seen_by seen part first e) ≤ first_by part first e + 13) (sym event) room;
+      few = subst (λ e. length (seen_by seen part first e) ≤ first_by part first e + 27) (sym event) room;
       more = more;
       phase = subst (λ e. phase_at (seen_by seen part first e) (first_by part first e) ≡ new.phase) (sym event) phase_now;
-      under = subst (UnderBy count state u.op step seen part first) (sym event) under;
+      led = subst (LedBy from u.op step seen part first) (sym event) led;
     }
 
 -- the turn that makes a step and settles
-pub turned-by : (v v1 n : Vp) (op : Op) (old new : Seat) (step : StageStep) (turn : CpuTurn) → (st : Stepped v.limits.pages v.state op v.seen v.part v.first old new step) → v1 ≡ saw_so (Some op) v step.event → n ≡ settled (rest_of v1 v1.op) v1 → turn ≡ answer_at (rest_of v1 v1.op) n.ended
+pub turned-by : (v v1 n : Vp) (op : Op) (old new : Seat) (step : StageStep) (turn : CpuTurn) → (st : Stepped (origin_of v) op v.seen v.part v.first old new step) → v1 ≡ saw_so (Some op) v step.event → n ≡ settled (rest_of v1 v1.op) v1 → turn ≡ answer_at (rest_of v1 v1.op) n.ended
     → TurnsBy (rest_of v (Some op)) (Some op) v old n new turn
 turned-by v v1 n op old new step turn st e en et =
     let same : v1 ≡ saw_so (Some op) v (made st.s st.x) = e ∙ ap (saw_so (Some op) v) st.event in
@@ -112,14 +139,21 @@ pub local-by : (v v1 n : Vp) (op : Op) (o : Outcome) (seat : Seat) (turn : CpuTu
 local-by v v1 n op o seat turn ends e kept en et =
     rw ends (refl, (rw (e, ends) at en) ∙ came-stood o.what v op o kept, rw (e, ends) at et)
 
-fresh-no-again : (count : ℕ) (state : State) (op : Op) (seen : List Event) (first : ℕ) (o : Outcome) (grant : Grant) → first ≡ length seen → follow (attempt count state op) (answers_of seen first) ≡ Ends o → o.what ≢ whats.Again grant
-fresh-no-again count state op seen first o grant e ends =
+fresh-no-again : (from : Origin) (op : Op) (seen : List Event) (first : ℕ) (o : Outcome) (grant : Grant) → first ≡ length seen → follow (attempt from op) (answers_of seen first) ≡ Ends o → o.what ≢ whats.Again grant
+fresh-no-again from op seen first o grant e ends =
     let none : drop first seen ≡ [] = none-seen seen first e in
-    let at : attempt count state op ≡ Ends o = rw none at ends in
-    let never : NoAgain (Ends o) = rw at at (attempt-no-again count state op) in
+    let at : attempt from op ≡ Ends o = rw none at ends in
+    let never : NoAgain (Ends o) = rw at at (attempt-no-again from op) in
     never grant
 
 -- where nothing was done, a spin found another value only if its operation was kept
-pub again-kept : (count : ℕ) (state : State) (under : Option Under) (u : Under) (seen : List Event) (part first : ℕ) (o : Outcome) (grant : Grant) → Means count state under seen part first → IfSome under (λ w. u ≡ w) → follow (attempt count state u.op) (answers_of seen first) ≡ Ends o → o.what ≡ whats.Again grant → op_of under ≡ Some u.op
-again-kept count state None u seen part first o grant means kept ends again = absurd (fresh-no-again count state u.op seen first o grant means.0 ends again)
-again-kept count state (Some w) u seen part first o grant means kept ends again = ap (λ (z : Under). Some z.op) (sym kept)
+pub again-kept : (from : Origin) (under : Option Under) (u : Under) (seen : List Event) (part first : ℕ) (o : Outcome) (grant : Grant) → Means from under seen part first → IfSome under (λ w. u ≡ w) → follow (attempt from u.op) (answers_of seen first) ≡ Ends o → o.what ≡ whats.Again grant → op_of under ≡ Some u.op
+again-kept from None u seen part first o grant means kept ends again = absurd (fresh-no-again from u.op seen first o grant means.0 ends again)
+again-kept from (Some w) u seen part first o grant means kept ends again = ap (λ (z : Under). Some z.op) (sym kept)
+
+-- a spin that found another value has had no more steps than a granted access may have
+pub again-few : (n : ℕ) (tree : Tree Outcome) (o : Outcome) (grant : Grant) → Counts most_steps n tree → tree ≡ Ends o → o.what ≡ whats.Again grant → n ≤ 13
+again-few n tree o grant counts ends again =
+    let h : n ≤ most_steps o = rw ends at counts in
+    let most : most_steps o ≡ 13 = ap most_steps_of again in
+    omega (arith, h, most)

@@ -1,5 +1,5 @@
 // The first stage of an attempt.
-ghost use Rattle.std.specs.Prelude.{◌≡◌, ◌<◌, ℕ, List, length, None, Some, IfSome, if◌then◌else◌, slice_get};
+ghost use Rattle.std.specs.Prelude.{◌≡◌, ◌≢◌, ◌<◌, ℕ, List, length, None, Some, IfSome, if◌then◌else◌, slice_get};
 ghost use Rattle.vsm_core.specs.Attempt.{attempt, by_access, call_tree, return_tree, eom_tree, goal_of as goal_of_lem};
 ghost use Rattle.vsm_core.specs.Outcomes.{Origin};
 ghost use Rattle.vsm_core.specs.State.{rip_of};
@@ -65,6 +65,7 @@ fn reaching(aim: Aim) -> Stage
     ensures rest { (from : Origin) (op : Op) → StageRest from op result (by_access from (granted_of from.state op) (goal_of aim)) }
     ensures is { (number : ℕ) → StageIs aim.pages number result }
     ensures idle { StageAt result Idle }
+    ensures no_poll { ¬ IsTaking result }
 {
     match Path::start(aim) {
         Ok(path) => Stage::Reach { path },
@@ -89,6 +90,7 @@ fn calling(pages: u32, vp: VpIndex, bank: &Bank, levels: &Levels) -> Stage
     ensures rest { (held : Contents) → StageRest (origin_with pages vp.0 bank.now levels.now held) Op.VtlCall result (call_tree (origin_with pages vp.0 bank.now levels.now held)) }
     ensures is { StageIs pages vp.0 result }
     ensures idle { StageAt result Idle }
+    ensures no_poll { ¬ IsTaking result }
 {
     let decided = Decided::Called;
     match told_page(pages, bank, levels) {
@@ -120,6 +122,7 @@ fn returning(pages: u32, bank: &Bank, levels: &Levels) -> Stage
     ensures rest { (number : ℕ) (held : Contents) → StageRest (origin_with pages number bank.now levels.now held) Op.VtlReturn result (return_tree (origin_with pages number bank.now levels.now held)) }
     ensures is { (number : ℕ) → StageIs pages number result }
     ensures idle { StageAt result Idle }
+    ensures no_poll { ¬ IsTaking result }
 {
     match given_page(pages, bank, levels) {
         Some(page) => Stage::Touch {
@@ -154,6 +157,7 @@ fn ending(pages: u32, bank: &Bank, levels: &Levels, controllers: &Controllers) -
     ensures rest { (number : ℕ) → StageRest (origin_at pages number bank.now levels.now controllers.now) Op.Eom result (eom_tree (origin_at pages number bank.now levels.now controllers.now)) }
     ensures is { (number : ℕ) → StageIs pages number result }
     ensures idle { StageAt result Idle }
+    ensures no_poll { ¬ IsTaking result }
 {
     match looked_page(pages, bank, levels, controllers) {
         Some(page) => Stage::Touch {
@@ -181,7 +185,7 @@ pub fn begin(
     ensures rest { StageRest (origin_at pages vp.0 bank.now levels.now controllers.now) op result (attempt (origin_at pages vp.0 bank.now levels.now controllers.now) op) }
     ensures is { StageIs pages vp.0 result }
     ensures idle { StageAt result Idle }
-    ensures takes { IsTaking result → op ≡ Op.Poll }
+    ensures no_poll { op ≢ Op.Poll → ¬ IsTaking result }
 {
     match op {
         Op::Load(_, gva) => reaching(aim_at(pages, bank, levels, Access::Read, true, gva, 0)),

@@ -1,13 +1,17 @@
 // The next step of a poll: it takes the words of pending vectors, one after the other.
-ghost use Rattle.std.specs.Prelude.{◌≡◌, ◌<◌};
-ghost use Rattle.cpu.specs.Stages.{StageServes, StageSteps};
+ghost use Rattle.std.specs.Prelude.{◌≡◌, ◌<◌, ◌≤◌, ℕ, take, drop};
+ghost use Rattle.vsm_core.specs.Attempt.{polled};
+ghost use Rattle.vsm_core.specs.Controllers.{vector_words};
+ghost use Rattle.vsm_core.specs.Outcomes.{Origin};
+ghost use Rattle.vsm_core.specs.Tree.{takes};
+ghost use Rattle.cpu.specs.Stages.{StageRest, StageMay, StageAt, StageServes, StageSteps};
 ghost use Rattle.cpu.specs.Words.{word_at};
 
 use crate::stage::{Stage, StageStep};
 use crate::task::{Case, Taken};
 use fabric::Port;
 use vsm_base::Vtl;
-use vsm_core::{Event, PendingWord};
+use vsm_core::{Event, Op, PendingWord, Phase};
 
 /// How many words of pending vectors a processor has.
 const WORDS: u8 = 8;
@@ -24,6 +28,24 @@ fn word_at(place: u8) -> PendingWord
     }
 }
 
+/// The stage of a poll that has taken so many words.
+fn after_take(found: [u64; 8], count: u8) -> Stage
+    requires { count ≤ 8 }
+    ensures rest { (from : Origin) (op : Op) → StageRest from op result (takes (drop count vector_words) (take count found) (polled from)) }
+    ensures is { (pages number : ℕ) → StageMay pages number result }
+    ensures idle { StageAt result Phase.Idle }
+{
+    if count < WORDS {
+        Stage::Take {
+            taken: Taken { found, count },
+        }
+    } else {
+        Stage::Judge {
+            case: Case::Polled(found),
+        }
+    }
+}
+
 /// Takes the next word.
 pub fn take<P: Port>(taken: Taken, port: &mut P) -> StageStep
     requires { StageServes (Stage.Take taken) (P.seat port.old) }
@@ -33,16 +55,7 @@ pub fn take<P: Port>(taken: Taken, port: &mut P) -> StageStep
     let bits = port.take(word);
     let mut found = taken.found;
     found[taken.count as usize] = bits;
-    let count = taken.count + 1;
-    let stage = if count < WORDS {
-        Stage::Take {
-            taken: Taken { found, count },
-        }
-    } else {
-        Stage::Judge {
-            case: Case::Polled(found),
-        }
-    };
+    let stage = after_take(found, taken.count + 1);
     StageStep {
         event: Event::Take { word, bits },
         stage,

@@ -47,7 +47,7 @@ number low high words = do
 abbrev pub valid_mask : ℕ → Result ℕ Why
 valid_mask bits = if is_mask bits then Ok bits else Err OutOfRange
 
--- a general register or Rsp, into which a load reads
+-- a general register or Rsp, into which a load or an acknowledgement writes
 abbrev pub is_target : Name → Bool
 is_target names.Rsp = true
 is_target name = is_general name

@@ -27,6 +27,10 @@ all_keywords =
     words.JumpNe ∷
     words.VtlCall ∷
     words.VtlReturn ∷
+    words.Poll ∷
+    words.Ack ∷
+    words.Eoi ∷
+    words.Eom ∷
     words.Schedule ∷
     words.End ∷ []
 
@@ -50,6 +54,10 @@ spelling words.Jump = codes "jump"
 spelling words.JumpNe = codes "jumpne"
 spelling words.VtlCall = codes "vtlcall"
 spelling words.VtlReturn = codes "vtlreturn"
+spelling words.Poll = codes "poll"
+spelling words.Ack = codes "ack"
+spelling words.Eoi = codes "eoi"
+spelling words.Eom = codes "eom"
 spelling words.Schedule = codes "schedule"
 spelling words.End = codes "end"
 
@@ -81,6 +89,10 @@ stands words.Jump (stages.Program vp level) = true
 stands words.JumpNe (stages.Program vp level) = true
 stands words.VtlCall (stages.Program vp level) = true
 stands words.VtlReturn (stages.Program vp level) = true
+stands words.Poll (stages.Program vp level) = true
+stands words.Ack (stages.Program vp level) = true
+stands words.Eoi (stages.Program vp level) = true
+stands words.Eom (stages.Program vp level) = true
 stands words.Schedule stages.Memory = true
 stands words.Schedule (stages.Program vp level) = true
 stands words.Schedule stages.Schedule = true

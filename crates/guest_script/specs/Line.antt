@@ -191,6 +191,31 @@ vtl_return_line r ws = do
   end ← no_more ws
   with_op r ops.VtlReturn
 
+-- poll
+unfoldable pub poll_line : Reading → Words → Result Reading Why
+poll_line r ws = do
+  end ← no_more ws
+  with_op r ops.Poll
+
+-- ack REG
+unfoldable pub ack_line : Reading → Words → Result Reading Why
+ack_line r ws = do
+  target ← register ws
+  end ← no_more target.1
+  with_op r (ops.Ack target.0)
+
+-- eoi
+unfoldable pub eoi_line : Reading → Words → Result Reading Why
+eoi_line r ws = do
+  end ← no_more ws
+  with_op r ops.Eoi
+
+-- eom
+unfoldable pub eom_line : Reading → Words → Result Reading Why
+eom_line r ws = do
+  end ← no_more ws
+  with_op r ops.Eom
+
 -- all the words as entries, of which there is one at least
 abbrev some_entries : ℕ → Words → Result (List Turns) Why
 some_entries vps [] = Err MissingWord
@@ -228,6 +253,10 @@ after_words r words.Jump ws = jump_line r ws
 after_words r words.JumpNe ws = jump_ne_line r ws
 after_words r words.VtlCall ws = vtl_call_line r ws
 after_words r words.VtlReturn ws = vtl_return_line r ws
+after_words r words.Poll ws = poll_line r ws
+after_words r words.Ack ws = ack_line r ws
+after_words r words.Eoi ws = eoi_line r ws
+after_words r words.Eom ws = eom_line r ws
 after_words r words.Schedule ws = schedule_line r ws
 after_words r words.End ws = end_line r ws
 

@@ -37,7 +37,7 @@ pub fn number(line: &[u8], low: u128, high: u128) -> Result<(u128, &[u8]), Why>
     }
 }
 
-// Whether it is a general register or Rsp, into which a load reads.
+// Whether it is a general register or Rsp, into which a load or an acknowledgement writes.
 fn is_target(name: Name) -> bool
     ensures { result ≡ is_target name }
 {

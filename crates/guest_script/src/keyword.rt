@@ -23,6 +23,10 @@ pub enum Keyword {
     JumpNe,
     VtlCall,
     VtlReturn,
+    Poll,
+    Ack,
+    Eoi,
+    Eom,
     Schedule,
     End,
 }
@@ -42,7 +46,7 @@ pub enum Stage {
     Done,
 }
 
-const ALL: [Keyword; 20] = [
+const ALL: [Keyword; 24] = [
     Keyword::Vsm,
     Keyword::Vps,
     Keyword::Pages,
@@ -61,6 +65,10 @@ const ALL: [Keyword; 20] = [
     Keyword::JumpNe,
     Keyword::VtlCall,
     Keyword::VtlReturn,
+    Keyword::Poll,
+    Keyword::Ack,
+    Keyword::Eoi,
+    Keyword::Eom,
     Keyword::Schedule,
     Keyword::End,
 ];
@@ -89,6 +97,10 @@ impl Keyword {
             Keyword::JumpNe => b"jumpne",
             Keyword::VtlCall => b"vtlcall",
             Keyword::VtlReturn => b"vtlreturn",
+            Keyword::Poll => b"poll",
+            Keyword::Ack => b"ack",
+            Keyword::Eoi => b"eoi",
+            Keyword::Eom => b"eom",
             Keyword::Schedule => b"schedule",
             Keyword::End => b"end",
         }
@@ -135,7 +147,11 @@ pub fn stands(keyword: Keyword, stage: Stage) -> bool
         | Keyword::Jump
         | Keyword::JumpNe
         | Keyword::VtlCall
-        | Keyword::VtlReturn => matches!(stage, Stage::Program(_, _)),
+        | Keyword::VtlReturn
+        | Keyword::Poll
+        | Keyword::Ack
+        | Keyword::Eoi
+        | Keyword::Eom => matches!(stage, Stage::Program(_, _)),
         Keyword::Schedule | Keyword::End => {
             matches!(
                 stage,

@@ -3,7 +3,7 @@ ghost use Rattle.std.specs.Prelude.{◌≡◌, IfOk, IsTrue};
 ghost use Rattle.std.specs.List.{list_all};
 ghost use Rattle.guest_script.specs.Lines.{words_of};
 ghost use Rattle.guest_script.specs.Fields.{entries};
-ghost use Rattle.guest_script.specs.Line.{Becomes, Collects, is_text, vsm_line, vps_line, pages_line, budget_line, started_line, mask_line, word_line, program_line, with_op, set_line, get_line, load_line, store_line, exec_line, spin_line, jump_line, jump_ne_line, vtl_call_line, vtl_return_line, schedule_line, end_line, after_words, after_line, is_masked, is_begun};
+ghost use Rattle.guest_script.specs.Line.{Becomes, Collects, is_text, vsm_line, vps_line, pages_line, budget_line, started_line, mask_line, word_line, program_line, with_op, set_line, get_line, load_line, store_line, exec_line, spin_line, jump_line, jump_ne_line, vtl_call_line, vtl_return_line, poll_line, ack_line, eoi_line, eom_line, schedule_line, end_line, after_words, after_line, is_masked, is_begun};
 ghost use Rattle.guest_script.specs.Schedules.{all_known};
 ghost use Rattle.guest_script.specs.Sound.{IsSound, script_of};
 ghost use Rattle.guest_script.specs.declared.reading.LineError.TheVariants.{Memory, Refused};
@@ -368,6 +368,47 @@ impl Reading {
         self.add(Op::VtlReturn)
     }
 
+    #[tactic(auto, unfolding(crate::specs::Line::poll_line))]
+    fn poll_line(&mut self, rest: &[u8]) -> Result<(), LineError>
+        requires sound { IsSound self.old }
+        ensures said { Becomes self.new result (poll_line self.old (words_of rest.now)) }
+        ensures sound { IsSound self.new }
+    {
+        no_more(rest)?;
+        self.add(Op::Poll)
+    }
+
+    #[tactic(auto, unfolding(crate::specs::Line::ack_line))]
+    fn ack_line(&mut self, rest: &[u8]) -> Result<(), LineError>
+        requires sound { IsSound self.old }
+        ensures said { Becomes self.new result (ack_line self.old (words_of rest.now)) }
+        ensures sound { IsSound self.new }
+    {
+        let (target, rest) = register(rest)?;
+        no_more(rest)?;
+        self.add(Op::Ack(target))
+    }
+
+    #[tactic(auto, unfolding(crate::specs::Line::eoi_line))]
+    fn eoi_line(&mut self, rest: &[u8]) -> Result<(), LineError>
+        requires sound { IsSound self.old }
+        ensures said { Becomes self.new result (eoi_line self.old (words_of rest.now)) }
+        ensures sound { IsSound self.new }
+    {
+        no_more(rest)?;
+        self.add(Op::Eoi)
+    }
+
+    #[tactic(auto, unfolding(crate::specs::Line::eom_line))]
+    fn eom_line(&mut self, rest: &[u8]) -> Result<(), LineError>
+        requires sound { IsSound self.old }
+        ensures said { Becomes self.new result (eom_line self.old (words_of rest.now)) }
+        ensures sound { IsSound self.new }
+    {
+        no_more(rest)?;
+        self.add(Op::Eom)
+    }
+
     #[tactic(auto, unfolding(crate::specs::Line::schedule_line), using(crate::proofs::Known::known_line))]
     fn schedule_line(&mut self, alloc: Global, rest: &[u8]) -> Result<(), LineError>
         requires sound { IsSound self.old }
@@ -427,6 +468,10 @@ impl Reading {
             Keyword::JumpNe => self.jump_ne_line(rest),
             Keyword::VtlCall => self.vtl_call_line(rest),
             Keyword::VtlReturn => self.vtl_return_line(rest),
+            Keyword::Poll => self.poll_line(rest),
+            Keyword::Ack => self.ack_line(rest),
+            Keyword::Eoi => self.eoi_line(rest),
+            Keyword::Eom => self.eom_line(rest),
             Keyword::Schedule => self.schedule_line(alloc, rest),
             Keyword::End => self.end_line(rest),
         }

@@ -165,6 +165,26 @@ program 0 1\nprogram 1 0\nvtlcall\nvtlcall\nend\n";
 }
 
 #[test]
+fn operations_on_vectors_and_messages_are_read_into_a_program(rt: HostRuntime) -> Result<(), Fail> {
+    let body: &[u8] =
+        b"program 0 1\neoi\n ack  Rsp \neom\nprogram 0 0\npoll\nack Rax\neoi\neom\nack R15\npoll \nend\n";
+    let script = read(rt.alloc(), &with_head(rt.alloc(), body)?)?;
+    let program = &script.programs.as_slice()[0];
+    let zero = [
+        Op::Poll,
+        Op::Ack(Name::Rax),
+        Op::Eoi,
+        Op::Eom,
+        Op::Ack(Name::R15),
+        Op::Poll,
+    ];
+    assert_eq!(rt; program.zero.as_slice(), zero.as_slice());
+    let one = [Op::Eoi, Op::Ack(Name::Rsp), Op::Eom];
+    assert_eq!(rt; program.one.as_slice(), one.as_slice());
+    Ok(())
+}
+
+#[test]
 fn eight_processors_have_each_its_program(rt: HostRuntime) -> Result<(), Fail> {
     let text: &[u8] = b"vsm 1\nvps 8\npages 1\nbudget 1\nstarted 8\n\
 program 7 0\njump 17\nprogram 0 0\njump 10\nprogram 1 0\njump 11\nprogram 2 0\njump 12\n\
@@ -192,7 +212,7 @@ schedule 7 0*3\nschedule 6*100\nend\n";
 
 #[test]
 fn a_line_in_a_program_is_refused_with_its_cause(rt: HostRuntime) -> Result<(), Fail> {
-    let lines: [(&[u8], Why); 42] = [
+    let lines: [(&[u8], Why); 54] = [
         (b"exec", Why::MissingWord),
         (b"exec Rax", Why::BadNumber),
         (b"exec 18446744073709551616", Why::OutOfRange),
@@ -224,6 +244,18 @@ fn a_line_in_a_program_is_refused_with_its_cause(rt: HostRuntime) -> Result<(), 
         (b"vtlreturn 1 1", Why::ExtraWord),
         (b"VtlCall", Why::UnknownWord),
         (b"vtlret", Why::UnknownWord),
+        (b"poll x", Why::ExtraWord),
+        (b"eoi 0", Why::ExtraWord),
+        (b"eom eom", Why::ExtraWord),
+        (b"ack", Why::MissingWord),
+        (b"ack Cr0", Why::BadName),
+        (b"ack Rip", Why::BadName),
+        (b"ack 7", Why::BadName),
+        (b"ack rax", Why::BadName),
+        (b"ack Rax Rbx", Why::ExtraWord),
+        (b"ack Cr0 Rbx", Why::BadName),
+        (b"Poll", Why::UnknownWord),
+        (b"eo", Why::UnknownWord),
         (b"set Rip 0", Why::BadName),
         (b"program 1 0", Why::Twice),
         (b"program 2 0", Why::OutOfRange),
@@ -240,10 +272,14 @@ fn a_line_in_a_program_is_refused_with_its_cause(rt: HostRuntime) -> Result<(), 
         let answer = next_in_program(rt.alloc(), line);
         assert_eq!(rt; answer, Err(LineError::Refused(why)));
     }
-    let good: [&[u8]; 7] = [
+    let good: [&[u8]; 11] = [
         b"jumpne Rsp 0 0",
         b"vtlcall",
         b"vtlreturn",
+        b"poll",
+        b"ack Rsp",
+        b"eoi",
+        b"eom",
         b"program 0 0",
         b"program 0 1",
         b"program 1 1",
@@ -315,7 +351,7 @@ fn a_script_is_refused_before_its_memory(rt: HostRuntime) -> Result<(), Fail> {
 
 #[test]
 fn a_body_is_refused_for_each_cause(rt: HostRuntime) -> Result<(), Fail> {
-    let bodies: [&[u8]; 38] = [
+    let bodies: [&[u8]; 42] = [
         b"",
         b"print\nend\n",
         b"mask 0 1\n\nend\n",
@@ -325,8 +361,12 @@ fn a_body_is_refused_for_each_cause(rt: HostRuntime) -> Result<(), Fail> {
         b"exec 0\nend\n",
         b"spin 0 0\nend\n",
         b"vtlcall\nend\n",
+        b"poll\nend\n",
+        b"ack Rax\nend\n",
         b"schedule 0\njump 0\nend\n",
         b"schedule 0\nvtlreturn\nend\n",
+        b"schedule 0\neoi\nend\n",
+        b"schedule 0\neom\nend\n",
         b"schedule 0\njumpne Rax 0 0\nend\n",
         b"schedule 0\nget Rax\nend\n",
         b"schedule 0\nmask 0 1\nend\n",

@@ -1,1 +1,4 @@
+pub mod Decoded
 pub mod InWords
+pub mod Parts
+pub mod ReadBack

@@ -14,7 +14,7 @@ abbrev pub place_fields : Head → List Field
 place_fields head =
     (4, head.vp) ∷ (1, 0) ∷ (1, head.access) ∷ (2, 0) ∷ (16, head.cs) ∷ (8, head.rip) ∷ (8, head.rflags) ∷ []
 
--- both
+-- the header and these
 abbrev pub fields_of_head : Head → List Field
 fields_of_head head = head_fields head.kind head.vp head.access head.cs head.rip head.rflags []
 

@@ -1,1 +1,3 @@
+pub mod Candidate
 pub mod Layout
+pub mod Told

@@ -6,9 +6,10 @@ ghost use Rattle.intercept_msg.specs.Layout.{header_fields, place_fields, fields
 use byteorder::{ByteOrder, LittleEndian};
 use vsm_base::Access;
 
-/// The types of the messages of memory intercepts and of register intercepts (TLFS, HV_MESSAGE_TYPE).
+/// The type of a memory intercept's message (TLFS, HV_MESSAGE_TYPE).
 pub const MEMORY: u32 = 0x8000_0001;
 
+/// The type of a register intercept's message (TLFS, HV_MESSAGE_TYPE).
 pub const REGISTER: u32 = 0x8001_0006;
 
 /// How many bytes the payload of either message has.
@@ -19,6 +20,7 @@ const PAYLOAD_SIZE: u32 = 80;
 pub struct Head {
     /// The message's type.
     pub kind: u32,
+    /// The processor.
     pub vp: u32,
     /// The access, as it is spelled in a message.
     pub access: u8,
@@ -38,7 +40,7 @@ pub fn access_byte(access: Access) -> u8
     }
 }
 
-/// The header of a message of this type.
+/// The header of a message of this type, whose size is followed by zeros alone.
 fn header(kind: u32) -> [u8; 16]
     ensures { result ≡ laid_out (header_fields kind) }
 {
@@ -48,7 +50,7 @@ fn header(kind: u32) -> [u8; 16]
     bytes
 }
 
-/// Where an intercept was: the first part of a payload.
+/// The first part of a payload, which tells what was intercepted where.
 fn place(head: Head) -> [u8; 40]
     ensures { result ≡ laid_out (place_fields head) }
 {

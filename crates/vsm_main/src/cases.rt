@@ -484,7 +484,35 @@ close\n\
 ",
 };
 
-pub const ALL: [Case; 16] = [
+pub const IDLE_CONTROLLER: Case = Case {
+    name: "idle controller",
+    script: b"\
+vsm 1\n\
+vps 1\n\
+pages 1\n\
+budget 10\n\
+started 1\n\
+program 0 0\n\
+poll\n\
+ack Rax\n\
+eoi\n\
+eom\n\
+schedule 0*5\n\
+end\n\
+",
+    status: Status::Ok,
+    text: b"\
+vsm-report 1 trace\n\
+0.0 0 poll ok\n\
+0.0 1 ack Rax 0x0000000000000000\n\
+0.0 2 eoi ok\n\
+0.0 3 eom none\n\
+end 0 done\n\
+close\n\
+",
+};
+
+pub const ALL: [Case; 17] = [
     EMPTY_PROGRAM,
     DENIED_STORE,
     LAST_WORD_AND_UNMAPPED,
@@ -501,4 +529,5 @@ pub const ALL: [Case; 16] = [
     EIGHT_ENDINGS,
     CALL_NOT_ENABLED,
     RETURN_IN_LEVEL_0,
+    IDLE_CONTROLLER,
 ];

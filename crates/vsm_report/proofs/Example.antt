@@ -11,6 +11,7 @@ use Rattle.vsm_core.specs.declared.operation.Op.{Op}
 use Rattle.vsm_core.specs.declared.operation.Op.TheVariants.{Store, Spin}
 use Rattle.vsm_core.specs.declared.operation.Operand.TheVariants.{Number}
 use Rattle.vsm_core.specs.declared.operation.Program.{Program}
+use Rattle.vsm_core.specs.Controllers.{opening_controllers}
 use Rattle.vsm_core.specs.State.{opening_state}
 use Rattle.vsm_core.specs.Registers as Registers
 use Rattle.vsm_core.specs.Processor.{attempted, spin_limit}
@@ -57,5 +58,5 @@ record SpinsAndStores (r : Report) : Type 0 where
   word : slice_index r.words 1 ≡ 7
 
 flat-spin_and_store : SpinsAndStores (flat spin_and_store)
-unfolding spin_and_store once only grant mark flat acted opening_flat opened opening_vps opening_masks opening_words after_turns after_line after_schedule attempted opening_state spin_limit Registers.opening_shared Registers.opening_private Registers.opening_value Registers.shared_names Registers.private_names Registers.shared_place Registers.private_place Registers.has_bits Registers.bits_of Names.all_names
+unfolding spin_and_store once only grant mark flat acted opening_flat opened opening_vps opening_masks opening_words after_turns after_line after_schedule attempted opening_state opening_controllers spin_limit Registers.opening_shared Registers.opening_private Registers.opening_value Registers.shared_names Registers.private_names Registers.shared_place Registers.private_place Registers.has_bits Registers.bits_of Names.all_names
 flat-spin_and_store = record { lines = refl; marks = refl; events = refl; ends = refl; word = refl }

@@ -10,8 +10,9 @@ use Rattle.vsm_base.specs.declared.places.Limits.{Limits}
 use Rattle.vsm_core.specs.declared.operation.Op.{Op}
 use Rattle.vsm_core.specs.declared.operation.Program.{Program}
 use Rattle.vsm_core.specs.State.{State}
-use Rattle.vsm_core.specs.Attempt.{Outcome}
-use Rattle.vsm_core.specs.Processor.{Vp, Did, tree_of, operation_at, did_stop, stopped_at, attempted}
+use Rattle.vsm_core.specs.Controllers.{Controllers}
+use Rattle.vsm_core.specs.Outcomes.{Outcome, origin_in}
+use Rattle.vsm_core.specs.Processor.{Vp, Did, origin_of, tree_of, operation_at, did_stop, stopped_at, attempted}
 use Rattle.vsm_core.specs.Whole.{Flat, Stop, run_on}
 use Rattle.vsm_core.specs.Words.{Holds, SameStop, steps_on, memory_at, posted_at}
 use Rattle.vsm_core.proofs.SameAnswers.{attempt-same}
@@ -62,10 +63,10 @@ pub record Alike (limits : Limits) (v : Stepped) (w : World) : Type 0 where
   pub holds : Holds limits v.words w.words
   pub placed : (p : ℕ) (u : Vp) → slice_get w.vps p ≡ Some u → IsPlaced limits p u
 
-tree-same : (limits : Limits) (p : ℕ) (state : State) (op : Option Op) (words : List ℕ) (flat : Flat) → p < limits.vps → Holds limits words flat
-    → SameStop limits (steps_on limits p words (tree_of limits.pages state op)) (run_on limits p flat (tree_of limits.pages state op))
-tree-same limits p state None words flat low h = record { at = refl; events = refl; holds = h }
-tree-same limits p state (Some op) words flat low h = attempt-same limits p state op words flat low h
+tree-same : (limits : Limits) (p : ℕ) (state : State) (controllers : Controllers) (op : Option Op) (words : List ℕ) (flat : Flat) → p < limits.vps → Holds limits words flat
+    → SameStop limits (steps_on limits p words (tree_of (origin_in limits p state controllers) op)) (run_on limits p flat (tree_of (origin_in limits p state controllers) op))
+tree-same limits p state controllers None words flat low h = record { at = refl; events = refl; holds = h }
+tree-same limits p state controllers (Some op) words flat low h = attempt-same limits p state controllers op words flat low h
 
 -- two attempts of one processor that come to the same
 record SameDid (limits : Limits) (p : ℕ) (steps : Did (List ℕ)) (whole : Did Flat) : Type 0 where
@@ -88,8 +89,8 @@ attempt-did limits program p v words flat is h =
     let op = operation_at program v.state in
     let low : v.number < v.limits.vps = subst (λ (l : Limits). v.number < l.vps) (sym is.limits_same) (subst (λ n. n < limits.vps) (sym is.number) is.low) in
     let held : Holds v.limits words flat = subst (λ l. Holds l words flat) (sym is.limits_same) h in
-    let same : SameStop v.limits (steps_on v.limits v.number words (tree_of v.limits.pages v.state op)) (run_on v.limits v.number flat (tree_of v.limits.pages v.state op)) = tree-same v.limits v.number v.state op words flat low held in
-    did-same limits p op v _ _ is (subst (λ l. SameStop l (steps_on v.limits v.number words (tree_of v.limits.pages v.state op)) (run_on v.limits v.number flat (tree_of v.limits.pages v.state op))) is.limits_same same)
+    let same : SameStop v.limits (steps_on v.limits v.number words (tree_of (origin_of v) op)) (run_on v.limits v.number flat (tree_of (origin_of v) op)) = tree-same v.limits v.number v.state v.controllers op words flat low held in
+    did-same limits p op v _ _ is (subst (λ l. SameStop l (steps_on v.limits v.number words (tree_of (origin_of v) op)) (run_on v.limits v.number flat (tree_of (origin_of v) op))) is.limits_same same)
 
 -- two worlds after the same attempt
 with_attempt-alike : (limits : Limits) (p : ℕ) (v : Stepped) (w : World) (u : Vp) (steps : Did (List ℕ)) (whole : Did Flat) → Alike limits v w → SameDid limits p steps whole → Alike limits (with_attempt p v u steps) (with_attempt p w u whole)

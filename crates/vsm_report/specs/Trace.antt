@@ -1,7 +1,7 @@
 -- The run of a script step by step on all shared words: a turn is every step of its processor up to its mark.
 use Rattle.std.specs.Prelude.{ℕ, ◌+◌, ◌*◌, List, [], ◌++◌, take, drop, replicate}
 use Rattle.vsm_core.specs.declared.operation.Program.{Program}
-use Rattle.vsm_core.specs.Processor.{Vp, Did, did_stop, operation_at, tree_of}
+use Rattle.vsm_core.specs.Processor.{Vp, Did, did_stop, operation_at, origin_of, tree_of}
 use Rattle.vsm_core.specs.Words.{memory_at, steps_on}
 use Rattle.guest_script.specs.declared.script.Script.{Script}
 use Rattle.vsm_report.specs.declared.report.Report.{Report}
@@ -23,7 +23,7 @@ stepped_opening s = record { words = opening_shared s; vps = opening_vps s; line
 -- the steps of the operation where the program stands, up to the mark, each answered by the words as they stand
 unfoldable pub made_steps : Program → Vp → List ℕ → Did (List ℕ)
 made_steps program v words =
-    did_stop (operation_at program v.state) v (steps_on v.limits v.number words (tree_of v.limits.pages v.state (operation_at program v.state)))
+    did_stop (operation_at program v.state) v (steps_on v.limits v.number words (tree_of (origin_of v) (operation_at program v.state)))
 
 -- a processor acts: its whole attempt step by step
 unfoldable pub stepped : List Program → ℕ → Stepped → Stepped

@@ -8,8 +8,8 @@ use Rattle.vsm_core.specs.declared.mark.What.{What}
 use Rattle.vsm_core.specs.declared.mark.What.TheVariants.{Again}
 use Rattle.vsm_core.specs.declared.operation.Op.{Op}
 use Rattle.vsm_core.specs.declared.operation.Program.{Program}
-use Rattle.vsm_core.specs.Attempt.{Outcome}
-use Rattle.vsm_core.specs.Processor.{Vp, IsSameProcessor, saw, came_to, marked_or_ended, standing, settled, stopped_at, operation_at, tree_of}
+use Rattle.vsm_core.specs.Outcomes.{Outcome}
+use Rattle.vsm_core.specs.Processor.{Vp, IsSameProcessor, saw, came_to, marked_or_ended, standing, settled, stopped_at, operation_at, origin_of, tree_of}
 use Rattle.vsm_core.specs.Tree.{Tree, Ends, Asks, Wants}
 use Rattle.vsm_core.specs.Whole.{Stop}
 use Rattle.vsm_core.specs.Words.{steps_on}
@@ -100,7 +100,7 @@ stopped-keeps program v es t h =
 
 -- where the attempt of the operation that stands there stops
 abbrev stop_of : Program → Vp → List ℕ → Stop Outcome (List ℕ)
-stop_of program v words = steps_on v.limits v.number words (tree_of v.limits.pages v.state (operation_at program v.state))
+stop_of program v words = steps_on v.limits v.number words (tree_of (origin_of v) (operation_at program v.state))
 
 module _ (program : Program) (v : Vp) (words : List ℕ) where
   pub made_steps-same : IsSameProcessor v (made_steps program v words).vp

@@ -8,7 +8,7 @@ use Rattle.vsm_core.specs.declared.event.Phase.{Phase}
 use Rattle.vsm_core.specs.declared.event.Phase.TheVariants.{Idle}
 use Rattle.vsm_core.specs.declared.operation.Op.{Op}
 use Rattle.vsm_core.specs.declared.operation.Program.{Program}
-use Rattle.vsm_core.specs.Processor.{Vp, operation_at, rest_of, tree_of}
+use Rattle.vsm_core.specs.Processor.{Vp, operation_at, origin_of, rest_of, tree_of}
 use Rattle.vsm_core.specs.Seat.{Fabric}
 use Rattle.vsm_core.specs.Steps.{learned, phase_of}
 use Rattle.vsm_core.specs.Tree.{follow}
@@ -28,8 +28,8 @@ made-whole : (program : Program) (limits : Limits) (v : Vp) (words : List ℕ) �
 unfolding made_steps
 made-whole program limits v words rests same =
     let op = operation_at program v.state in
-    ap (λ es. whole limits v.number (follow (tree_of v.limits.pages v.state op) (map learned es)) op v words) (none-seen v.seen v.first rests)
-    ∙ ap (λ (l : Limits). whole l v.number (tree_of v.limits.pages v.state op) op v words) (sym same)
+    ap (λ es. whole limits v.number (follow (tree_of (origin_of v) op) (map learned es)) op v words) (none-seen v.seen v.first rests)
+    ∙ ap (λ (l : Limits). whole l v.number (tree_of (origin_of v) op) op v words) (sym same)
 
 -- a turn that is no move is the end
 stops-of : (turn : CpuTurn) (limits : Limits) (p : ℕ) (op : Option Op) (v n : Vp) (words after : List ℕ) → turn ≢ turns.Moved → Leads turn limits p op v n words after → Stops limits p op v n words after

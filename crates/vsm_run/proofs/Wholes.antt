@@ -11,8 +11,8 @@ use Rattle.vsm_core.specs.declared.mark.Ending.{Ending}
 use Rattle.vsm_core.specs.declared.mark.What.{What}
 use Rattle.vsm_core.specs.declared.mark.What.TheVariants.{Again}
 use Rattle.vsm_core.specs.declared.operation.Op.{Op}
-use Rattle.vsm_core.specs.Attempt.{Outcome}
-use Rattle.vsm_core.specs.Processor.{Vp, IsSameProcessor, saw, came_to, marked_or_ended, settled, rest_of, tree_of}
+use Rattle.vsm_core.specs.Outcomes.{Outcome}
+use Rattle.vsm_core.specs.Processor.{Vp, IsSameProcessor, saw, came_to, marked_or_ended, settled, origin_of, rest_of, tree_of}
 use Rattle.vsm_core.specs.Seat.{Seat, Fabric, Makes, fabric_after, told_after}
 use Rattle.vsm_core.specs.Steps.{made, learned, phase_after}
 use Rattle.vsm_core.specs.Tree.{Tree, Ends, Asks, Wants, WordStep, after, follow}
@@ -41,10 +41,10 @@ answers-more t es e = ap (follow t) (map-append learned es (e ∷ [])) ∙ follo
 saw-rest : (op : Option Op) (v : Vp) (e : Event) → IsOrdered v → rest_of (saw op v e) op ≡ after (rest_of v op) (learned e)
 saw-rest op v (events.Check generation) is =
     let e = events.Check generation in
-    let t = tree_of v.limits.pages v.state op in
+    let t = tree_of (origin_of v) op in
     ap (λ es. follow t (map learned es)) (drop-forgot v.part v.seen (drop v.first v.seen) (e ∷ []) is.part) ∙ answers-more t (drop v.first v.seen) e
 saw-rest op v e is =
-    let t = tree_of v.limits.pages v.state op in
+    let t = tree_of (origin_of v) op in
     ap (λ es. follow t (map learned es)) (drop-append-le v.first v.seen (e ∷ []) is.first) ∙ answers-more t (drop v.first v.seen) e
 
 -- what an event keeps, and that it is one more

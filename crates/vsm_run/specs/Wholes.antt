@@ -3,7 +3,7 @@ use Rattle.std.specs.Prelude.{◌≡◌, ◌≢◌, ℕ, ◌+◌, List, length, 
 use Rattle.vsm_base.specs.declared.places.Limits.{Limits}
 use Rattle.vsm_core.specs.declared.event.Phase.TheVariants.{Idle}
 use Rattle.vsm_core.specs.declared.operation.Op.{Op}
-use Rattle.vsm_core.specs.Attempt.{Outcome}
+use Rattle.vsm_core.specs.Outcomes.{Outcome}
 use Rattle.vsm_core.specs.Processor.{Vp, Did, IsSameProcessor, did_stop, rest_of}
 use Rattle.vsm_core.specs.Seat.{Fabric}
 use Rattle.vsm_core.specs.Tree.{Tree}

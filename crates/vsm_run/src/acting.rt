@@ -25,7 +25,7 @@ fn turn_at(fabric: &mut PlainFabric, cpu: &mut Cpu, program: &Program) -> CpuTur
     ensures limits { fabric.new.limits ≡ fabric.old.limits }
     ensures phase { get_or fabric.new.fabric.phases cpu.old.number Phase.Idle ≡ phase_at cpu.new.seen cpu.new.first }
     ensures others { (q : ℕ) → q ≢ cpu.old.number → get_or fabric.new.fabric.phases q Phase.Idle ≡ get_or fabric.old.fabric.phases q Phase.Idle }
-    ensures few { length cpu.new.seen ≤ cpu.new.first + 13 }
+    ensures few { length cpu.new.seen ≤ cpu.new.first + 27 }
 {
     let vp = cpu.vp();
     let mut port = fabric.port(vp);

@@ -5,6 +5,6 @@ use Rattle.cpu.proofs.Ops.{begun-so}
 use Rattle.cpu.proofs.beginning.reaching.Goals as goal
 
 pub returns-in-Ok-clause-rest : goal.returns-in-Ok-clause-rest
-returns-in-Ok-clause-rest c = λ state op.
+returns-in-Ok-clause-rest c = λ from op.
     let e = c.in-Ok.ensures in
-    rw e.path (access (goal_of c.args.aim), refl, begun-so state op (goal_of c.args.aim) e.ok)
+    rw e.path (access (goal_of c.args.aim), refl, begun-so from op (goal_of c.args.aim) e.ok)

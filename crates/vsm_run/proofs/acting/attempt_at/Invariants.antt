@@ -10,4 +10,4 @@ invariant-turns l = record {
 }
 
 abbrev pub decreases-turns : goal.decreases-turns
-decreases-turns l = (l.cpu.first + 14) - length l.cpu.seen
+decreases-turns l = (l.cpu.first + 28) - length l.cpu.seen

@@ -7,7 +7,8 @@ use Rattle.cpu.specs.Stages.{StageSteps}
 use Rattle.cpu.specs.Turns.{phase_at}
 use Rattle.cpu.proofs.Rests.{going-ends}
 use Rattle.cpu.proofs.Seen.{first-by-le, first-by-few, part-by-le}
-use Rattle.cpu.proofs.Turning.{Stepped, again-kept, local-by, stepped, turned-by}
+use Rattle.cpu.specs.Held.{origin_at}
+use Rattle.cpu.proofs.Turning.{Stepped, again-kept, led-under, local-by, stepped, turned-by}
 use Rattle.cpu.proofs.processor.Cpu.advance.Given.{Over}
 use Rattle.cpu.proofs.processor.Cpu.advance.Goals as goal
 
@@ -17,12 +18,18 @@ returns-then-not-is_going-clause-turned g c =
     let v = view_of i in
     let u = c.begun-under.result in
     let means = c.begun-under.ensures.means i.log.seen.0 i.log.part i.log.first c.self.invariant.means in
-    let ends = going-ends (state_of i.bank i.levels) u.op u.stage _ (sym c.is_going.ensures ∙ c.if-not-is_going.true) means.rest in
+    let ends = going-ends (origin_at i.limits.pages i.vp.0 i.bank i.levels i.controllers) u.op u.stage _ (sym c.is_going.ensures ∙ c.if-not-is_going.true) means.rest in
     let own : operation_at c.args.program.now v.state ≡ Some u.op = rw (← c.operations-ops.ensures) c.begun-under.ensures.op in
-    let v1 : Vp = view_of (record { vp = i.vp; limits = i.limits; zero_length = i.zero_length; one_length = i.one_length; started = i.started; bank = i.bank; levels = i.levels; under = Some u; log = c.stand.new.self }) in
+    let v1 : Vp = view_of (record { vp = i.vp; limits = i.limits; zero_length = i.zero_length; one_length = i.one_length; started = i.started; bank = i.bank; levels = i.levels; controllers = i.controllers; under = Some u; log = c.stand.new.self }) in
     rw (← c.self.view_is, own) (local-by v v1 c.settle.new.self u.op ends.0 (g.P.Port.seat c.args.port.now) c.settle.result ends.1 (rw c.stand.ensures refl)
-    (λ grant. again-kept i.limits.pages (state_of i.bank i.levels) i.under u i.log.seen.0 i.log.part i.log.first ends.0 grant c.self.invariant.means c.begun-under.ensures.kept ends.1)
+    (λ grant. again-kept (origin_at i.limits.pages i.vp.0 i.bank i.levels i.controllers) i.under u i.log.seen.0 i.log.part i.log.first ends.0 grant c.self.invariant.means c.begun-under.ensures.kept ends.1)
     c.settle.ensures.new c.settle.ensures.turn)
+
+pub judged-stage-requires : goal.judged-stage-requires
+judged-stage-requires g c =
+    let i = c.self.inside in
+    let steps : StageSteps c.begun-under.result.stage (g.P.Port.seat c.args.port.now) (g.P.Port.seat c.step-step.new.port) c.step-step.result = c.step-step.ensures in
+    steps.is i.limits.pages i.vp.0 (c.begun-under.ensures.means i.log.seen.0 i.log.part i.log.first c.self.invariant.means).is
 
 pub invariant_of-self-2 : goal.invariant_of-self-2
 invariant_of-self-2 g c =
@@ -34,7 +41,7 @@ invariant_of-self-2 g c =
     let new = g.P.Port.seat c.step-step.new.port in
     let steps : StageSteps u.stage old new c.step-step.result = c.step-step.ensures in
     let phase : old.phase ≡ phase_at i.log.seen.0 i.log.first = rw (← c.self.view_is) at c.requires.serves.phase in
-    let st = stepped i.limits.pages v.state u i.log.seen.0 i.log.part i.log.first old new c.step-step.result w.part_le w.first_le phase (c.begun-under.ensures.means i.log.seen.0 i.log.part i.log.first w.means) steps in
+    let st = stepped (origin_at i.limits.pages i.vp.0 i.bank i.levels i.controllers) u i.log.seen.0 i.log.part i.log.first old new c.step-step.result w.part_le w.first_le phase (c.begun-under.ensures.means i.log.seen.0 i.log.part i.log.first w.means) steps in
     let going : i.log.ended ≡ None = rw (← c.self.view_is) at c.requires.going in
     let started : i.started ≡ true = rw (← c.self.view_is) at c.requires.started in
     rw (c.see.ensures, c.stand.ensures) (record {
@@ -43,6 +50,7 @@ invariant_of-self-2 g c =
       marks_room = w.marks_room;
       seen_room = w.seen_room;
       marks_few = let l = w.room going in omega (arith, l);
+      notes = w.notes;
       part_few = w.part_few;
       part_le = part-by-le i.log.part i.log.first c.step-step.result.event w.part_le;
       first_few = first-by-few i.log.part i.log.first c.step-step.result.event w.first_few;
@@ -53,17 +61,22 @@ invariant_of-self-2 g c =
       spins = w.spins;
       waits = λ e. let no : true ≡ false = sym started ∙ e in cc;
       fresh = λ e. refl;
-      means = st.under;
+      means = led-under (origin_at i.limits.pages i.vp.0 i.bank i.levels i.controllers) u.op c.step-step.result.stage c.judged-stage.result _ _ _ st.led (record {
+        is = c.judged-stage.ensures.is;
+        rest = c.judged-stage.ensures.rest u.op;
+        at = c.judged-stage.ensures.at;
+        tidy = c.judged-stage.ensures.tidy;
+      });
     })
 
 -- what the step did
-way : (g : Over) (c : goal.After-settle-2 g) → Stepped c.self.inside.limits.pages (state_of c.self.inside.bank c.self.inside.levels) c.begun-under.result.op c.self.inside.log.seen.0 c.self.inside.log.part c.self.inside.log.first (g.P.Port.seat c.args.port.now) (g.P.Port.seat c.step-step.new.port) c.step-step.result
+way : (g : Over) (c : goal.After-settle-2 g) → Stepped (origin_at c.self.inside.limits.pages c.self.inside.vp.0 c.self.inside.bank c.self.inside.levels c.self.inside.controllers) c.begun-under.result.op c.self.inside.log.seen.0 c.self.inside.log.part c.self.inside.log.first (g.P.Port.seat c.args.port.now) (g.P.Port.seat c.step-step.new.port) c.step-step.result
 way g c =
     let i = c.self.inside in
     let w = c.self.invariant in
     let old = g.P.Port.seat c.args.port.now in
     let phase : old.phase ≡ phase_at i.log.seen.0 i.log.first = rw (← c.self.view_is) at c.requires.serves.phase in
-    stepped i.limits.pages (state_of i.bank i.levels) c.begun-under.result i.log.seen.0 i.log.part i.log.first old (g.P.Port.seat c.step-step.new.port) c.step-step.result w.part_le w.first_le phase (c.begun-under.ensures.means i.log.seen.0 i.log.part i.log.first w.means) c.step-step.ensures
+    stepped (origin_at i.limits.pages i.vp.0 i.bank i.levels i.controllers) c.begun-under.result i.log.seen.0 i.log.part i.log.first old (g.P.Port.seat c.step-step.new.port) c.step-step.result w.part_le w.first_le phase (c.begun-under.ensures.means i.log.seen.0 i.log.part i.log.first w.means) c.step-step.ensures
 
 pub returns-clause-turned : goal.returns-clause-turned
 returns-clause-turned g c =
@@ -71,7 +84,7 @@ returns-clause-turned g c =
     let v = view_of i in
     let u = c.begun-under.result in
     let own : operation_at c.args.program.now v.state ≡ Some u.op = rw (← c.operations-ops.ensures) c.begun-under.ensures.op in
-    let v1 : Vp = view_of (record { vp = i.vp; limits = i.limits; zero_length = i.zero_length; one_length = i.one_length; started = i.started; bank = i.bank; levels = i.levels; under = Some (record { op = u.op; stage = c.step-step.result.stage }); log = c.see.new.self }) in
+    let v1 : Vp = view_of (record { vp = i.vp; limits = i.limits; zero_length = i.zero_length; one_length = i.one_length; started = i.started; bank = i.bank; levels = i.levels; controllers = i.controllers; under = Some (record { op = u.op; stage = c.judged-stage.result }); log = c.see.new.self }) in
     rw (← c.self.view_is, own) (turned-by v v1 c.settle-2.new.self u.op (g.P.Port.seat c.args.port.now) (g.P.Port.seat c.step-step.new.port) c.step-step.result c.settle-2.result (way g c) (rw (c.see.ensures, c.stand.ensures) refl) c.settle-2.ensures.new c.settle-2.ensures.turn)
 
 pub returns-clause-serves : goal.returns-clause-serves

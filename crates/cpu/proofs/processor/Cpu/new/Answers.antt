@@ -10,6 +10,7 @@ invariant_of-result c = record {
   marks_room = search rules;
   seen_room = search rules;
   marks_few = rw c.in_ok-marks.ensures (omega arith);
+  notes = rw (c.in_ok-synic.ensures, c.in_ok-marks.ensures) (omega arith);
   part_few = omega arith;
   part_le = omega arith;
   first_few = omega arith;
