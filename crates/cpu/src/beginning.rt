@@ -136,12 +136,7 @@ fn returning(pages: u32, bank: &Bank, levels: &Levels) -> Stage
 }
 
 /// The page whose message slot an end of message looks at.
-fn looked_page(
-    pages: u32,
-    bank: &Bank,
-    levels: &Levels,
-    controllers: &Controllers,
-) -> Option<Page>
+fn looked_page(pages: u32, bank: &Bank, levels: &Levels, controllers: &Controllers) -> Option<Page>
     ensures page { number_of result ≡ looked_page_lem pages (state_of bank.now levels.now) controllers.now.synic.waiting }
     ensures below { IfSome result (λ page. page.0 < pages) }
 {

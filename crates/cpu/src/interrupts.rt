@@ -50,7 +50,12 @@ pub fn is_wanted(bank: &Bank, levels: &Levels, controllers: &Controllers, found:
 }
 
 /// A poll has taken these words.
-pub fn poll(bank: &mut Bank, levels: &mut Levels, controllers: &mut Controllers, found: [u64; 8]) -> What
+pub fn poll(
+    bank: &mut Bank,
+    levels: &mut Levels,
+    controllers: &mut Controllers,
+    found: [u64; 8],
+) -> What
     ensures what { result ≡ (polled_outcome (state_of bank.old levels.old) (with_taken (held_of controllers.old) found)).what }
     ensures state { state_of bank.new levels.new ≡ (polled_outcome (state_of bank.old levels.old) (with_taken (held_of controllers.old) found)).state }
     ensures controllers { held_of controllers.new ≡ (polled_outcome (state_of bank.old levels.old) (with_taken (held_of controllers.old) found)).controllers }

@@ -32,7 +32,14 @@ fn inside(plan: Plan, decided: Decided) -> Stage
 }
 
 /// An access was denied.
-fn refused(pages: u32, vp: VpIndex, bank: &Bank, levels: &Levels, controllers: &Controllers, refusal: Refusal) -> Stage
+fn refused(
+    pages: u32,
+    vp: VpIndex,
+    bank: &Bank,
+    levels: &Levels,
+    controllers: &Controllers,
+    refusal: Refusal,
+) -> Stage
     ensures rest { (op : Op) (tree : Tree Outcome) → StageRest (origin_at pages vp.0 bank.now levels.now controllers.now) op (Stage.Judge (Case.Refused refusal)) tree → StageRest (origin_at pages vp.0 bank.now levels.now controllers.now) op result tree }
     ensures is { StageIs pages vp.0 result }
     ensures at { (phase : Phase) → StageAt (Stage.Judge (Case.Refused refusal)) phase → StageAt result phase }
@@ -59,7 +66,15 @@ fn refused(pages: u32, vp: VpIndex, bank: &Bank, levels: &Levels, controllers: &
 }
 
 /// The first word of the message slot was read.
-fn found(pages: u32, vp: VpIndex, bank: &Bank, levels: &Levels, controllers: &Controllers, matter: Matter, word: u64) -> Stage
+fn found(
+    pages: u32,
+    vp: VpIndex,
+    bank: &Bank,
+    levels: &Levels,
+    controllers: &Controllers,
+    matter: Matter,
+    word: u64,
+) -> Stage
     ensures rest { (op : Op) (tree : Tree Outcome) → StageRest (origin_at pages vp.0 bank.now levels.now controllers.now) op (Stage.Judge (Case.Found matter word)) tree → StageRest (origin_at pages vp.0 bank.now levels.now controllers.now) op result tree }
     ensures is { StageIs pages vp.0 result }
     ensures at { (phase : Phase) → StageAt (Stage.Judge (Case.Found matter word)) phase → StageAt result phase }
@@ -79,7 +94,14 @@ fn found(pages: u32, vp: VpIndex, bank: &Bank, levels: &Levels, controllers: &Co
 }
 
 /// A poll has taken all words.
-fn polled(pages: u32, vp: VpIndex, bank: &Bank, levels: &Levels, controllers: &Controllers, found: [u64; 8]) -> Stage
+fn polled(
+    pages: u32,
+    vp: VpIndex,
+    bank: &Bank,
+    levels: &Levels,
+    controllers: &Controllers,
+    found: [u64; 8],
+) -> Stage
     ensures rest { (op : Op) (tree : Tree Outcome) → StageRest (origin_at pages vp.0 bank.now levels.now controllers.now) op (Stage.Judge (Case.Polled found)) tree → StageRest (origin_at pages vp.0 bank.now levels.now controllers.now) op result tree }
     ensures is { StageIs pages vp.0 result }
     ensures at { (phase : Phase) → StageAt (Stage.Judge (Case.Polled found)) phase → StageAt result phase }
@@ -101,7 +123,14 @@ fn polled(pages: u32, vp: VpIndex, bank: &Bank, levels: &Levels, controllers: &C
 }
 
 /// The stage from which an attempt goes on.
-pub fn judged(pages: u32, vp: VpIndex, bank: &Bank, levels: &Levels, controllers: &Controllers, stage: Stage) -> Stage
+pub fn judged(
+    pages: u32,
+    vp: VpIndex,
+    bank: &Bank,
+    levels: &Levels,
+    controllers: &Controllers,
+    stage: Stage,
+) -> Stage
     requires { StageMay pages vp.0 stage }
     ensures rest { (op : Op) (tree : Tree Outcome) → StageRest (origin_at pages vp.0 bank.now levels.now controllers.now) op stage tree → StageRest (origin_at pages vp.0 bank.now levels.now controllers.now) op result tree }
     ensures is { StageIs pages vp.0 result }

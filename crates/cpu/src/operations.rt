@@ -61,12 +61,7 @@ fn jump_ne(bank: &mut Bank, levels: &Levels, name: Name, value: u64, rip: u64)
     }
 }
 
-fn local(
-    bank: &mut Bank,
-    levels: &Levels,
-    controllers: &mut Controllers,
-    op: Op,
-) -> What
+fn local(bank: &mut Bank, levels: &Levels, controllers: &mut Controllers, op: Op) -> What
     ensures what { (pages number : ℕ) → result ≡ (local_outcome (origin_at pages number bank.old levels.now controllers.old) op).what }
     ensures state { (pages number : ℕ) → state_of bank.new levels.now ≡ (local_outcome (origin_at pages number bank.old levels.now controllers.old) op).state }
     ensures controllers { (pages number : ℕ) → held_of controllers.new ≡ (local_outcome (origin_at pages number bank.old levels.now controllers.old) op).controllers }

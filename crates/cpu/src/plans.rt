@@ -169,13 +169,7 @@ pub fn posting(
 }
 
 /// The steps of an end of message, where the message slot has this first word.
-pub fn sending(
-    pages: u32,
-    vp: VpIndex,
-    bank: &Bank,
-    controllers: &Controllers,
-    word: u64,
-) -> Plan
+pub fn sending(pages: u32, vp: VpIndex, bank: &Bank, controllers: &Controllers, word: u64) -> Plan
     ensures steps { plan_steps result ≡ sending_lem (origin_at pages vp.0 bank.now bare_levels controllers.now) (message_page_lem pages (bare_state bank.now)) controllers.now.synic.waiting word }
     ensures is { PlanIs pages vp.0 result }
 {

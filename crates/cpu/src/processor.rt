@@ -13,8 +13,8 @@ ghost use Rattle.cpu.specs.Turns.{Keeps, VpServes, TurnsBy, Wakes, answer_at, af
 use crate::beginning::{begin, begun};
 use crate::controllers::Controllers;
 use crate::cpu_turn::{CpuTurn, after_mark};
-use crate::endings::{ending, ending_on, opening_ending};
 use crate::decided::Decided;
+use crate::endings::{ending, ending_on, opening_ending};
 use crate::judging::judged;
 use crate::log::Log;
 use crate::operations::{again, finish};
@@ -325,6 +325,12 @@ impl Cpu {
     /// level's program stands, and leaves a mark where the attempt has then come to its end. An attempt that has no
     /// step left makes none. A mark has at most 13 events, and at most 12 where the access was denied without level 1;
     /// where level 1 is told of it, at most 15 more. An end of message has at most 17.
+    ///
+    /// A denied access of level 0 ends a processor without level 1. Else level 1 is told by one note, whose message goes to
+    /// the message slot or waits, and is entered, before the access is left (TLFS, Virtual Secure Mode, Memory Access
+    /// Protections; Synthetic Interrupt Controller). A poll takes the pending vectors of both levels and enters level 1
+    /// from level 0 where one is deliverable there. A call of level 1 and a return to level 0 are undefined where they aren't
+    /// lawful (TLFS, VTL Call and VTL Return).
     ///
     /// The mark of a spin that found another value stands until the next turn, and its events until the check of the
     /// next attempt. Such a mark doesn't count for the budget. The 20,000,000th read of spins in vain ends the

@@ -41,24 +41,13 @@ pub enum Matter {
 #[derive(Clone, Copy, Debug)]
 pub enum Task {
     /// The first word of the message slot, which is on this page, is read.
-    Look {
-        page: Page,
-        matter: Matter,
-    },
+    Look { page: Page, matter: Matter },
     /// The planned steps are made, and then the access is left; the attempt is decided so.
-    Make {
-        plan: Plan,
-        decided: Decided,
-    },
+    Make { plan: Plan, decided: Decided },
     /// A return reads what becomes RAX, and then what becomes RCX.
-    Rax {
-        page: Page,
-    },
+    Rax { page: Page },
     /// A return has read what becomes RAX.
-    Rcx {
-        page: Page,
-        rax: u64,
-    },
+    Rcx { page: Page, rax: u64 },
 }
 
 /// The words of pending vectors that a poll has taken so far, level 0's first.
