@@ -546,6 +546,25 @@ fn an_end_of_interrupt_lets_an_equal_class_come(rt: HostRuntime) -> Result<(), F
 }
 
 #[test]
+fn level_one_ends_its_own_interrupt(rt: HostRuntime) -> Result<(), Fail> {
+    let alloc = rt.alloc();
+    let ack = Op::Ack(Name::Rax);
+    let one = [ack, ack, Op::Eoi, ack, Op::Eoi];
+    // Vectors 0x40 and 0x41 of both levels.
+    let answers = [0, 3, 0, 0, 0, 3, 0, 0, ROUND];
+    let cpu = after(alloc, &POLLS, &one, &[], &answers, 5)?;
+    let wanted = [
+        What::Entered,
+        What::Value(0x41),
+        What::Value(0),
+        What::Plain,
+        What::Value(0x40),
+    ];
+    assert_eq!(rt; whats(alloc, cpu.marks())?.as_slice(), wanted.as_slice());
+    Ok(())
+}
+
+#[test]
 fn level_one_takes_the_vector_of_its_message(rt: HostRuntime) -> Result<(), Fail> {
     let alloc = rt.alloc();
     let one = [Op::Poll, Op::Ack(Name::Rbx), Op::Eom, Op::Eoi];
