@@ -20,6 +20,9 @@ pub const PAGE_1: Put = (Vtl::One, Name::VpAssistPage, 0x1001);
 /// Why a processor at an operation that is undefined there ends.
 const UNDEFINED: GuestFault = GuestFault::Undefined;
 
+/// What an attempt at a switch leaves: its only mark, the ending, the active level, and where a level stands.
+type Tried = (Option<Mark>, Option<Ending>, Vtl, u128);
+
 pub fn programs(alloc: Global, zero: &[Op], one: &[Op]) -> Result<Program, Fail> {
     Ok(Program {
         zero: Items::from_vec(Vec::from_slice(alloc, zero)?),
@@ -81,18 +84,86 @@ pub fn mark(level: Vtl, rip: u64, what: What, count: u32) -> Mark {
     }
 }
 
+/// The processor after so many attempts, where it begins with this level over words of 7, with its memory and what the
+/// last attempt answered.
+fn ran(
+    alloc: Global,
+    zero: &[Op],
+    one: &[Op],
+    level: Vtl,
+    puts: &[Put],
+    count: usize,
+) -> Result<(Cpu, PlainFabric, Option<CpuTurn>), Fail> {
+    let program = programs(alloc, zero, one)?;
+    let mut cpu = machine(alloc, &program, level, puts)?;
+    let mut fabric = plain(alloc, Mask::all(), 7)?;
+    let mut port = fabric.port(VpIndex(0));
+    let last = attempts(&mut cpu, &mut port, &program, count);
+    Ok((cpu, fabric, last))
+}
+
+/// The processor after level 1 returned to this program of level 0, where page 1 has 0x55 for Rax and 0x66 for Rcx, and
+/// what that attempt answered.
+fn returned(alloc: Global, zero: &[Op], puts: &[Put]) -> Result<(Cpu, Option<CpuTurn>), Fail> {
+    let program = programs(alloc, zero, &[Op::VtlReturn])?;
+    let mut cpu = machine(alloc, &program, Vtl::One, puts)?;
+    let mut fabric = assisted(alloc, 0x55, 0x66)?;
+    let mut port = fabric.port(VpIndex(0));
+    let last = attempt(&mut cpu, &mut port, &program);
+    Ok((cpu, last))
+}
+
+/// The same after a first call of a processor whose level 1 is not enabled.
+fn called_too_early(alloc: Global) -> Result<(Cpu, Option<CpuTurn>), Fail> {
+    let program = programs(alloc, &[Op::VtlCall], &[Op::Jump(0)])?;
+    let mut cpu = processor(alloc, true, &program)?;
+    let mut fabric = plain(alloc, Mask::all(), 7)?;
+    let mut port = fabric.port(VpIndex(0));
+    let last = attempt(&mut cpu, &mut port, &program);
+    Ok((cpu, last))
+}
+
+/// The processor after two calls and two returns, with this in level 1's assist page register.
+fn with_assist(alloc: Global, assist: u128) -> Result<Cpu, Fail> {
+    let puts = [(Vtl::One, Name::VpAssistPage, assist)];
+    let (cpu, _fabric, _last) = ran(
+        alloc,
+        &[Op::VtlCall; 2],
+        &[Op::VtlReturn; 2],
+        Vtl::Zero,
+        &puts,
+        4,
+    )?;
+    Ok(cpu)
+}
+
+/// The one mark that two attempts at an operation leave, the ending, the active level, and where the level stands that
+/// the register was put in and that began.
+fn tried(alloc: Global, op: Op, put: Put) -> Result<Tried, Fail> {
+    let (level, _, _) = put;
+    let (cpu, _fabric, _last) = ran(alloc, &[op], &[op], level, &[PAGE_1, put], 2)?;
+    let only = match cpu.marks() {
+        [only] => Some(*only),
+        _ => None,
+    };
+    let stands = cpu.bank().get(level, Name::Rip);
+    Ok((only, cpu.ended(), cpu.levels().active(), stands))
+}
+
+/// What is left where a level's switch was refused as undefined.
+fn refused(level: Vtl) -> Tried {
+    let only = mark(level, 0, What::Fault(UNDEFINED), 0);
+    (Some(only), Some(Ending::Fault(UNDEFINED)), level, 0)
+}
+
 #[test]
 fn a_call_tells_why_it_enters(rt: HostRuntime) -> Result<(), Fail> {
     let alloc = rt.alloc();
-    let program = programs(alloc, &[Op::VtlCall], &[Op::Eoi, Op::Jump(2)])?;
+    let zero = [Op::VtlCall];
+    let one = [Op::Eoi, Op::Jump(2)];
     let puts = [PAGE_1, (Vtl::One, Name::Rip, 1)];
-    let mut cpu = machine(alloc, &program, Vtl::Zero, &puts)?;
-    let mut fabric = plain(alloc, Mask::all(), 7)?;
-    let mut port = fabric.port(VpIndex(0));
-    assert_eq!(rt;
-        attempt(&mut cpu, &mut port, &program),
-        Some(CpuTurn::Attempt)
-    );
+    let (cpu, _fabric, last) = ran(alloc, &zero, &one, Vtl::Zero, &puts, 1)?;
+    assert_eq!(rt; last, Some(CpuTurn::Attempt));
     let events = [
         Event::Enter,
         Event::Check { generation: 0 },
@@ -111,8 +182,8 @@ fn a_call_tells_why_it_enters(rt: HostRuntime) -> Result<(), Fail> {
     assert_eq!(rt; cpu.bank().get(Vtl::Zero, Name::Rip), 1);
     assert_eq!(rt; cpu.bank().get(Vtl::One, Name::Rip), 1);
     // Level 1's program goes on where level 1 stood.
-    let ended = CpuTurn::Ended(Ending::Done);
-    assert_eq!(rt; attempt(&mut cpu, &mut port, &program), Some(ended));
+    let (_cpu, fabric, last) = ran(alloc, &zero, &one, Vtl::Zero, &puts, 2)?;
+    assert_eq!(rt; last, Some(CpuTurn::Ended(Ending::Done)));
     assert_eq!(rt; word(&fabric, 512), Some(7));
     assert_eq!(rt; word(&fabric, 513), Some(1));
     assert_eq!(rt; word(&fabric, 514), Some(7));
@@ -122,15 +193,9 @@ fn a_call_tells_why_it_enters(rt: HostRuntime) -> Result<(), Fail> {
 #[test]
 fn a_return_takes_rax_and_rcx(rt: HostRuntime) -> Result<(), Fail> {
     let alloc = rt.alloc();
-    let program = programs(alloc, &[Op::Eoi, Op::Eoi], &[Op::VtlReturn])?;
     let puts = [PAGE_1, (Vtl::Zero, Name::Rip, 1), (Vtl::Zero, Name::Rax, 5)];
-    let mut cpu = machine(alloc, &program, Vtl::One, &puts)?;
-    let mut fabric = assisted(alloc, 0x55, 0x66)?;
-    let mut port = fabric.port(VpIndex(0));
-    assert_eq!(rt;
-        attempt(&mut cpu, &mut port, &program),
-        Some(CpuTurn::Attempt)
-    );
+    let (cpu, last) = returned(alloc, &[Op::Eoi, Op::Eoi], &puts)?;
+    assert_eq!(rt; last, Some(CpuTurn::Attempt));
     let page = Page(1);
     let events = [
         Event::Enter,
@@ -162,15 +227,9 @@ fn a_return_takes_rax_and_rcx(rt: HostRuntime) -> Result<(), Fail> {
 #[test]
 fn a_fast_return_takes_nothing(rt: HostRuntime) -> Result<(), Fail> {
     let alloc = rt.alloc();
-    let program = programs(alloc, &[Op::Eoi], &[Op::VtlReturn])?;
     let puts = [PAGE_1, (Vtl::One, Name::Rcx, 1)];
-    let mut cpu = machine(alloc, &program, Vtl::One, &puts)?;
-    let mut fabric = assisted(alloc, 0x55, 0x66)?;
-    let mut port = fabric.port(VpIndex(0));
-    assert_eq!(rt;
-        attempt(&mut cpu, &mut port, &program),
-        Some(CpuTurn::Attempt)
-    );
+    let (cpu, last) = returned(alloc, &[Op::Eoi], &puts)?;
+    assert_eq!(rt; last, Some(CpuTurn::Attempt));
     assert!(rt; cpu.seen().is_empty());
     assert_eq!(rt; cpu.levels().active(), Vtl::Zero);
     assert_eq!(rt; cpu.bank().get(Vtl::Zero, Name::Rax), 0);
@@ -181,36 +240,34 @@ fn a_fast_return_takes_nothing(rt: HostRuntime) -> Result<(), Fail> {
 #[test]
 fn no_step_is_made_without_the_page(rt: HostRuntime) -> Result<(), Fail> {
     let alloc = rt.alloc();
-    let program = programs(alloc, &[Op::VtlCall; 2], &[Op::VtlReturn; 2])?;
-    for assist in [0, 0x1000, 0x2001] {
-        let puts = [(Vtl::One, Name::VpAssistPage, assist)];
-        let mut cpu = machine(alloc, &program, Vtl::Zero, &puts)?;
-        let mut fabric = plain(alloc, Mask::all(), 7)?;
-        let mut port = fabric.port(VpIndex(0));
-        attempts(&mut cpu, &mut port, &program, 4);
-        let marks = [
-            mark(Vtl::Zero, 0, What::Plain, 0),
-            mark(Vtl::One, 0, What::Plain, 0),
-            mark(Vtl::Zero, 1, What::Plain, 0),
-            mark(Vtl::One, 1, What::Plain, 0),
-        ];
-        assert_eq!(rt; cpu.marks(), marks.as_slice());
-        assert!(rt; cpu.seen().is_empty());
-        // The last return leads behind the end of level 0's program.
-        assert_eq!(rt; cpu.ended(), Some(Ending::Done));
-    }
+    let marks = [
+        mark(Vtl::Zero, 0, What::Plain, 0),
+        mark(Vtl::One, 0, What::Plain, 0),
+        mark(Vtl::Zero, 1, What::Plain, 0),
+        mark(Vtl::One, 1, What::Plain, 0),
+    ];
+    // The last return leads behind the end of level 0's program.
+    let done = Some(Ending::Done);
+    let cpu = with_assist(alloc, 0)?;
+    assert_eq!(rt; cpu.marks(), marks.as_slice());
+    assert!(rt; cpu.seen().is_empty());
+    assert_eq!(rt; cpu.ended(), done);
+    let cpu = with_assist(alloc, 0x1000)?;
+    assert_eq!(rt; cpu.marks(), marks.as_slice());
+    assert!(rt; cpu.seen().is_empty());
+    assert_eq!(rt; cpu.ended(), done);
+    let cpu = with_assist(alloc, 0x2001)?;
+    assert_eq!(rt; cpu.marks(), marks.as_slice());
+    assert!(rt; cpu.seen().is_empty());
+    assert_eq!(rt; cpu.ended(), done);
     Ok(())
 }
 
 #[test]
 fn a_call_may_lead_to_the_end(rt: HostRuntime) -> Result<(), Fail> {
-    let alloc = rt.alloc();
-    let program = programs(alloc, &[Op::VtlCall, Op::VtlCall], &[])?;
-    let mut cpu = machine(alloc, &program, Vtl::Zero, &[])?;
-    let mut fabric = plain(alloc, Mask::all(), 7)?;
-    let mut port = fabric.port(VpIndex(0));
-    let ended = CpuTurn::Ended(Ending::Done);
-    assert_eq!(rt; attempt(&mut cpu, &mut port, &program), Some(ended));
+    let calls = [Op::VtlCall, Op::VtlCall];
+    let (_cpu, _fabric, last) = ran(rt.alloc(), &calls, &[], Vtl::Zero, &[], 1)?;
+    assert_eq!(rt; last, Some(CpuTurn::Ended(Ending::Done)));
     Ok(())
 }
 
@@ -218,37 +275,31 @@ fn a_call_may_lead_to_the_end(rt: HostRuntime) -> Result<(), Fail> {
 fn a_switch_that_is_not_lawful_is_undefined(rt: HostRuntime) -> Result<(), Fail> {
     let alloc = rt.alloc();
     let user = 3 << 96;
-    for (op, level, name, value) in [
-        (Op::VtlCall, Vtl::Zero, Name::Cs, user),
-        (Op::VtlCall, Vtl::Zero, Name::Rcx, 1),
-        (Op::VtlCall, Vtl::One, Name::Rcx, 0),
-        (Op::VtlReturn, Vtl::One, Name::Cs, user),
-        (Op::VtlReturn, Vtl::One, Name::Rcx, 2),
-        (Op::VtlReturn, Vtl::Zero, Name::Rcx, 0),
-    ] {
-        let program = programs(alloc, &[op], &[op])?;
-        let mut cpu = machine(alloc, &program, level, &[PAGE_1, (level, name, value)])?;
-        let mut fabric = plain(alloc, Mask::all(), 7)?;
-        let mut port = fabric.port(VpIndex(0));
-        attempts(&mut cpu, &mut port, &program, 2);
-        let refused = mark(level, 0, What::Fault(UNDEFINED), 0);
-        assert_eq!(rt; cpu.marks(), [refused].as_slice());
-        assert_eq!(rt; cpu.ended(), Some(Ending::Fault(UNDEFINED)));
-        assert_eq!(rt; cpu.levels().active(), level);
-        assert_eq!(rt; cpu.bank().get(level, Name::Rip), 0);
-    }
+    let zero = refused(Vtl::Zero);
+    let one = refused(Vtl::One);
+    assert_eq!(rt;
+        tried(alloc, Op::VtlCall, (Vtl::Zero, Name::Cs, user))?,
+        zero
+    );
+    assert_eq!(rt; tried(alloc, Op::VtlCall, (Vtl::Zero, Name::Rcx, 1))?, zero);
+    assert_eq!(rt; tried(alloc, Op::VtlCall, (Vtl::One, Name::Rcx, 0))?, one);
+    assert_eq!(rt;
+        tried(alloc, Op::VtlReturn, (Vtl::One, Name::Cs, user))?,
+        one
+    );
+    assert_eq!(rt; tried(alloc, Op::VtlReturn, (Vtl::One, Name::Rcx, 2))?, one);
+    assert_eq!(rt;
+        tried(alloc, Op::VtlReturn, (Vtl::Zero, Name::Rcx, 0))?,
+        zero
+    );
     Ok(())
 }
 
 #[test]
 fn a_call_needs_level_one(rt: HostRuntime) -> Result<(), Fail> {
-    let alloc = rt.alloc();
-    let program = programs(alloc, &[Op::VtlCall], &[Op::Jump(0)])?;
-    let mut cpu = processor(alloc, true, &program)?;
-    let mut fabric = plain(alloc, Mask::all(), 7)?;
-    let mut port = fabric.port(VpIndex(0));
+    let (cpu, last) = called_too_early(rt.alloc())?;
     let ended = CpuTurn::Ended(Ending::Fault(UNDEFINED));
-    assert_eq!(rt; attempt(&mut cpu, &mut port, &program), Some(ended));
+    assert_eq!(rt; last, Some(ended));
     assert!(rt; !cpu.levels().enabled(Vtl::One));
     Ok(())
 }

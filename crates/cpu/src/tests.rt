@@ -17,6 +17,12 @@ pub const LIMITS: Limits = Limits {
     budget: 10,
 };
 
+/// A spin at the first word, and an operation behind it.
+const SPIN: [Op; 2] = [Op::Spin(Gva(0), 7), Op::Get(Name::Rax)];
+
+/// The spin reads 5, 6 and then 7.
+const SPIN_ANSWERS: [u64; 9] = [0, 15, 5, 0, 15, 6, 0, 15, 7];
+
 fn program_of(alloc: Global, ops: &[Op]) -> Result<Program, Fail> {
     Ok(Program {
         zero: Items::from_vec(Vec::from_slice(alloc, ops)?),
@@ -64,17 +70,18 @@ pub fn fed(alloc: Global, answers: &[u64]) -> Result<Fed, Fail>
     })
 }
 
-/// Makes a turn, if there is no ending. How many events are then seen?
-fn seen_after_turn<P: Port>(cpu: &mut Cpu, port: &mut P, program: &Program) -> usize
+/// Makes so many turns, while there is no ending.
+fn turns<P: Port>(cpu: &mut Cpu, port: &mut P, program: &Program, count: usize)
     requires fits { Fits program.now cpu.old }
     requires serves { VpServes cpu.old (P.seat port.old) }
     ensures fits { Fits program.now cpu.new }
     ensures serves { VpServes cpu.new (P.seat port.new) }
 {
-    if cpu.ended().is_none() {
-        cpu.turn(port, program);
+    'turns: for _ in 0..count {
+        if cpu.ended().is_none() {
+            cpu.turn(port, program);
+        }
     }
-    cpu.seen().len()
 }
 
 /// Makes turns until one doesn't answer that the attempt goes on, at most so many.
@@ -96,16 +103,23 @@ pub fn attempt<P: Port>(cpu: &mut Cpu, port: &mut P, program: &Program) -> Optio
     None
 }
 
-/// Makes so many attempts.
-pub fn attempts<P: Port>(cpu: &mut Cpu, port: &mut P, program: &Program, count: usize)
+/// Makes so many attempts, and says what the last one answered.
+pub fn attempts<P: Port>(
+    cpu: &mut Cpu,
+    port: &mut P,
+    program: &Program,
+    count: usize,
+) -> Option<CpuTurn>
     requires fits { Fits program.now cpu.old }
     requires serves { VpServes cpu.old (P.seat port.old) }
     ensures fits { Fits program.now cpu.new }
     ensures serves { VpServes cpu.new (P.seat port.new) }
 {
+    let mut last = None;
     'attempts: for _ in 0..count {
-        let _ = attempt(cpu, port, program);
+        last = attempt(cpu, port, program);
     }
+    last
 }
 
 pub fn whats(alloc: Global, marks: &[Mark]) -> Result<Vec<What>, Fail> {
@@ -126,6 +140,82 @@ fn grant(value: u64) -> Grant {
     }
 }
 
+/// The processor after so many attempts over a fabric of this mask and these words, and that fabric.
+fn ran(
+    alloc: Global,
+    mask: Mask,
+    word: u64,
+    ops: &[Op],
+    count: usize,
+) -> Result<(Cpu, PlainFabric), Fail> {
+    let program = program_of(alloc, ops)?;
+    let mut fabric = plain(alloc, mask, word)?;
+    let mut cpu = processor(alloc, true, &program)?;
+    let mut port = fabric.port(VpIndex(0));
+    attempts(&mut cpu, &mut port, &program, count);
+    Ok((cpu, fabric))
+}
+
+/// The processor after so many attempts whose port answers so, and what the last one answered.
+fn answered(
+    alloc: Global,
+    started: bool,
+    ops: &[Op],
+    answers: &[u64],
+    count: usize,
+) -> Result<(Cpu, Option<CpuTurn>), Fail> {
+    let program = program_of(alloc, ops)?;
+    let mut cpu = processor(alloc, started, &program)?;
+    let mut port = fed(alloc, answers)?;
+    let last = attempts(&mut cpu, &mut port, &program, count);
+    Ok((cpu, last))
+}
+
+/// The processor after one attempt of the spin, so many turns and then so many attempts, and what the last of these
+/// answered.
+fn turned(alloc: Global, count: usize, more: usize) -> Result<(Cpu, Option<CpuTurn>), Fail> {
+    let program = program_of(alloc, &SPIN)?;
+    let mut cpu = processor(alloc, true, &program)?;
+    let mut port = fed(alloc, &SPIN_ANSWERS)?;
+    attempts(&mut cpu, &mut port, &program, 1);
+    turns(&mut cpu, &mut port, &program, count);
+    let last = attempts(&mut cpu, &mut port, &program, more);
+    Ok((cpu, last))
+}
+
+/// The same after so many attempts of a processor that has spun two times less than it may.
+fn spun(alloc: Global, count: usize) -> Result<(Cpu, Option<CpuTurn>), Fail> {
+    let program = program_of(alloc, &[Op::Set(Name::Rbx, 1), Op::Spin(Gva(0), 7)])?;
+    let cpu = processor(alloc, true, &program)?;
+    let mut cpu = cpu.after_spins(19_999_998);
+    let mut port = fed(alloc, &[0, 15, 5, 0, 15, 5, 0, 15, 5])?;
+    let last = attempts(&mut cpu, &mut port, &program, count);
+    Ok((cpu, last))
+}
+
+/// What the first attempt answers after a start was posted, and the fabric then.
+fn posted(alloc: Global, ops: &[Op]) -> Result<(Option<CpuTurn>, PlainFabric), Fail> {
+    let program = program_of(alloc, ops)?;
+    let mut fabric = plain(alloc, Mask::all(), 0)?;
+    let mut cpu = processor(alloc, false, &program)?;
+    fabric.steward().post(VpIndex(0));
+    let mut port = fabric.port(VpIndex(0));
+    let last = attempt(&mut cpu, &mut port, &program);
+    Ok((last, fabric))
+}
+
+/// How many marks eleven attempts at an operation leave, and the ending.
+fn outcome(alloc: Global, op: Op) -> Result<(usize, Option<Ending>), Fail> {
+    let (cpu, _fabric) = ran(alloc, Mask::all(), 0, &[op], 11)?;
+    Ok((cpu.marks().len(), cpu.ended()))
+}
+
+/// Where a mark's events begin and how many they are, by its place.
+fn span(cpu: &Cpu, place: usize) -> Option<(u32, u32)> {
+    let mark = cpu.marks().get(place)?;
+    Some((mark.first, mark.count))
+}
+
 #[test]
 fn operations_do_what_they_say(rt: HostRuntime) -> Result<(), Fail> {
     let alloc = rt.alloc();
@@ -143,11 +233,7 @@ fn operations_do_what_they_say(rt: HostRuntime) -> Result<(), Fail> {
         Op::Hypercall,
         Op::Jump(99),
     ];
-    let program = program_of(alloc, &ops)?;
-    let mut fabric = plain(alloc, Mask::all(), 0)?;
-    let mut cpu = processor(alloc, true, &program)?;
-    let mut port = fabric.port(VpIndex(0));
-    attempts(&mut cpu, &mut port, &program, 10);
+    let (cpu, fabric) = ran(alloc, Mask::all(), 0, &ops, 10)?;
     let what = What::Granted(grant(0x1234));
     let plain = What::Plain;
     let wanted = [
@@ -174,15 +260,9 @@ fn operations_do_what_they_say(rt: HostRuntime) -> Result<(), Fail> {
 #[test]
 fn a_denied_store_writes_nothing(rt: HostRuntime) -> Result<(), Fail> {
     let alloc = rt.alloc();
-    let program = program_of(alloc, &[Op::Store(Gva(0), Operand::Number(7))])?;
     let mask = Mask::of(1).unwrap_or(Mask::all());
-    let mut fabric = plain(alloc, mask, 5)?;
-    let mut cpu = processor(alloc, true, &program)?;
-    let mut port = fabric.port(VpIndex(0));
-    attempts(&mut cpu, &mut port, &program, 2);
-    let [mark] = cpu.marks() else {
-        return Err("one mark".into());
-    };
+    let ops = [Op::Store(Gva(0), Operand::Number(7))];
+    let (cpu, fabric) = ran(alloc, mask, 5, &ops, 2)?;
     let denial = Denial {
         page: Page(0),
         mask,
@@ -190,8 +270,11 @@ fn a_denied_store_writes_nothing(rt: HostRuntime) -> Result<(), Fail> {
         access: Access::Write,
         posted: Posted::Held,
     };
-    assert_eq!(rt; mark.what, What::Denied(denial));
-    assert_eq!(rt; mark.count, 4);
+    assert_eq!(rt;
+        whats(alloc, cpu.marks())?.as_slice(),
+        [What::Denied(denial)].as_slice()
+    );
+    assert_eq!(rt; span(&cpu, 0), Some((0, 4)));
     assert_eq!(rt; cpu.ended(), Some(Ending::Held));
     assert_eq!(rt; cpu.bank().get(Vtl::Zero, Name::Rip), 0);
     assert_eq!(rt; word(&fabric, 0), Some(5));
@@ -201,48 +284,27 @@ fn a_denied_store_writes_nothing(rt: HostRuntime) -> Result<(), Fail> {
 #[test]
 fn a_fault_and_the_budget_end_it(rt: HostRuntime) -> Result<(), Fail> {
     let alloc = rt.alloc();
-    let table = [
-        (Op::Jump(0), 10, Ending::Budget),
-        (Op::Jump(1), 1, Ending::Done),
-        (
-            Op::Load(Name::Rax, Gva(4)),
-            1,
-            Ending::Fault(GuestFault::Align),
-        ),
-        (
-            Op::Load(Name::Rax, Gva(0x2000)),
-            1,
-            Ending::Fault(GuestFault::Unmapped),
-        ),
-        (
-            Op::Set(Name::Cr3, 1 << 64),
-            1,
-            Ending::Fault(GuestFault::Gp),
-        ),
-        (Op::Hypercall, 1, Ending::Fault(GuestFault::Undefined)),
-    ];
-    for (op, marks, ending) in table {
-        let program = program_of(alloc, &[op])?;
-        let mut fabric = plain(alloc, Mask::all(), 0)?;
-        let mut cpu = processor(alloc, true, &program)?;
-        let mut port = fabric.port(VpIndex(0));
-        attempts(&mut cpu, &mut port, &program, 11);
-        assert_eq!(rt; cpu.marks().len(), marks);
-        assert_eq!(rt; cpu.ended(), Some(ending));
-    }
+    assert_eq!(rt; outcome(alloc, Op::Jump(0))?, (10, Some(Ending::Budget)));
+    assert_eq!(rt; outcome(alloc, Op::Jump(1))?, (1, Some(Ending::Done)));
+    let fault = Some(Ending::Fault(GuestFault::Align));
+    assert_eq!(rt; outcome(alloc, Op::Load(Name::Rax, Gva(4)))?, (1, fault));
+    let fault = Some(Ending::Fault(GuestFault::Unmapped));
+    assert_eq!(rt;
+        outcome(alloc, Op::Load(Name::Rax, Gva(0x2000)))?,
+        (1, fault)
+    );
+    let fault = Some(Ending::Fault(GuestFault::Gp));
+    assert_eq!(rt; outcome(alloc, Op::Set(Name::Cr3, 1 << 64))?, (1, fault));
+    let fault = Some(Ending::Fault(GuestFault::Undefined));
+    assert_eq!(rt; outcome(alloc, Op::Hypercall)?, (1, fault));
     Ok(())
 }
 
 #[test]
 fn a_spin_leaves_its_last_attempt_alone(rt: HostRuntime) -> Result<(), Fail> {
     let alloc = rt.alloc();
-    let program = program_of(alloc, &[Op::Spin(Gva(0), 7), Op::Get(Name::Rax)])?;
-    let mut cpu = processor(alloc, true, &program)?;
-    let mut port = fed(alloc, &[0, 15, 5, 0, 15, 6, 0, 15, 7])?;
-    assert_eq!(rt;
-        attempt(&mut cpu, &mut port, &program),
-        Some(CpuTurn::Again)
-    );
+    let (cpu, last) = answered(alloc, true, &SPIN, &SPIN_ANSWERS, 1)?;
+    assert_eq!(rt; last, Some(CpuTurn::Again));
     let first = Mark {
         level: Vtl::Zero,
         rip: 0,
@@ -254,19 +316,18 @@ fn a_spin_leaves_its_last_attempt_alone(rt: HostRuntime) -> Result<(), Fail> {
     assert_eq!(rt; cpu.standing(), 0);
     assert_eq!(rt; cpu.seen().len(), 5);
     // The mark goes at the next turn, and the events at the check of the next attempt.
-    assert_eq!(rt; seen_after_turn(&mut cpu, &mut port, &program), 6);
+    let (cpu, _none) = turned(alloc, 1, 0)?;
+    assert_eq!(rt; cpu.seen().len(), 6);
     assert!(rt; cpu.marks().is_empty());
-    assert_eq!(rt; seen_after_turn(&mut cpu, &mut port, &program), 2);
-    assert_eq!(rt; seen_after_turn(&mut cpu, &mut port, &program), 3);
-    assert_eq!(rt;
-        attempt(&mut cpu, &mut port, &program),
-        Some(CpuTurn::Again)
-    );
+    let (cpu, _none) = turned(alloc, 2, 0)?;
+    assert_eq!(rt; cpu.seen().len(), 2);
+    let (cpu, _none) = turned(alloc, 3, 0)?;
+    assert_eq!(rt; cpu.seen().len(), 3);
+    let (cpu, last) = turned(alloc, 3, 1)?;
+    assert_eq!(rt; last, Some(CpuTurn::Again));
     assert_eq!(rt; cpu.seen().len(), 5);
-    assert_eq!(rt;
-        attempt(&mut cpu, &mut port, &program),
-        Some(CpuTurn::Attempt)
-    );
+    let (cpu, last) = turned(alloc, 3, 2)?;
+    assert_eq!(rt; last, Some(CpuTurn::Attempt));
     assert_eq!(rt;
         whats(alloc, cpu.marks())?.as_slice(),
         [What::Granted(grant(7))].as_slice()
@@ -279,20 +340,12 @@ fn a_spin_leaves_its_last_attempt_alone(rt: HostRuntime) -> Result<(), Fail> {
 #[test]
 fn a_spin_in_vain_ends_it(rt: HostRuntime) -> Result<(), Fail> {
     let alloc = rt.alloc();
-    let program = program_of(alloc, &[Op::Set(Name::Rbx, 1), Op::Spin(Gva(0), 7)])?;
-    let cpu = processor(alloc, true, &program)?;
-    let mut cpu = cpu.after_spins(19_999_998);
-    let mut port = fed(alloc, &[0, 15, 5, 0, 15, 5, 0, 15, 5])?;
-    assert_eq!(rt;
-        attempt(&mut cpu, &mut port, &program),
-        Some(CpuTurn::Attempt)
-    );
-    assert_eq!(rt;
-        attempt(&mut cpu, &mut port, &program),
-        Some(CpuTurn::Again)
-    );
-    let spun = CpuTurn::Ended(Ending::Spun);
-    assert_eq!(rt; attempt(&mut cpu, &mut port, &program), Some(spun));
+    let (_cpu, last) = spun(alloc, 1)?;
+    assert_eq!(rt; last, Some(CpuTurn::Attempt));
+    let (_cpu, last) = spun(alloc, 2)?;
+    assert_eq!(rt; last, Some(CpuTurn::Again));
+    let (cpu, last) = spun(alloc, 3)?;
+    assert_eq!(rt; last, Some(CpuTurn::Ended(Ending::Spun)));
     assert_eq!(rt; cpu.ended(), Some(Ending::Spun));
     let (marks, seen) = cpu.into_lists();
     assert_eq!(rt; marks.len(), 1);
@@ -308,20 +361,15 @@ fn a_walk_has_twelve_steps_or_thirteen(rt: HostRuntime) -> Result<(), Fail> {
         Op::Load(Name::Rax, Gva(0)),
         Op::Store(Gva(0), Operand::Number(1)),
     ];
-    let program = program_of(alloc, &ops)?;
-    let mut cpu = processor(alloc, true, &program)?;
-    let walk = [3, 15, 0x1007, 15, 0x1007, 15, 0x1007, 15, 0x1007];
-    let mut port = fed(alloc, &walk)?;
-    port.answers.extend_from_slice(&[1, 9])?;
-    port.answers.extend_from_slice(&walk)?;
-    port.answers.push(1)?;
-    attempts(&mut cpu, &mut port, &program, 3);
-    let counts = [(0, 0), (0, 13), (13, 12)];
+    let answers = [
+        3, 15, 0x1007, 15, 0x1007, 15, 0x1007, 15, 0x1007, 1, 9, 3, 15, 0x1007, 15, 0x1007, 15,
+        0x1007, 15, 0x1007, 1,
+    ];
+    let (cpu, _last) = answered(alloc, true, &ops, &answers, 3)?;
     assert_eq!(rt; cpu.marks().len(), 3);
-    for (mark, (first, count)) in cpu.marks().iter().zip(counts) {
-        assert_eq!(rt; mark.first, first);
-        assert_eq!(rt; mark.count, count);
-    }
+    assert_eq!(rt; span(&cpu, 0), Some((0, 0)));
+    assert_eq!(rt; span(&cpu, 1), Some((0, 13)));
+    assert_eq!(rt; span(&cpu, 2), Some((13, 12)));
     assert_eq!(rt; cpu.bank().get(Vtl::Zero, Name::Rax), 9);
     assert_eq!(rt; cpu.ended(), Some(Ending::Held));
     Ok(())
@@ -330,16 +378,13 @@ fn a_walk_has_twelve_steps_or_thirteen(rt: HostRuntime) -> Result<(), Fail> {
 #[test]
 fn a_processor_waits_for_its_start(rt: HostRuntime) -> Result<(), Fail> {
     let alloc = rt.alloc();
-    let program = program_of(alloc, &[Op::Get(Name::Rax)])?;
-    let mut cpu = processor(alloc, false, &program)?;
-    let mut port = fed(alloc, &[0, 1])?;
-    assert_eq!(rt; attempt(&mut cpu, &mut port, &program), Some(CpuTurn::Idle));
+    let ops = [Op::Get(Name::Rax)];
+    let (cpu, last) = answered(alloc, false, &ops, &[0, 1], 1)?;
+    assert_eq!(rt; last, Some(CpuTurn::Idle));
     assert!(rt; cpu.seen().is_empty());
+    let (cpu, last) = answered(alloc, false, &ops, &[0, 1], 2)?;
     let undefined = Ending::Fault(GuestFault::Undefined);
-    assert_eq!(rt;
-        attempt(&mut cpu, &mut port, &program),
-        Some(CpuTurn::Ended(undefined))
-    );
+    assert_eq!(rt; last, Some(CpuTurn::Ended(undefined)));
     assert_eq!(rt; cpu.marks().len(), 1);
     assert_eq!(rt; cpu.seen().len(), 1);
     Ok(())
@@ -347,17 +392,9 @@ fn a_processor_waits_for_its_start(rt: HostRuntime) -> Result<(), Fail> {
 
 #[test]
 fn a_posted_start_is_taken(rt: HostRuntime) -> Result<(), Fail> {
-    let alloc = rt.alloc();
-    let program = program_of(alloc, &[Op::Get(Name::Rax)])?;
-    let mut fabric = plain(alloc, Mask::all(), 0)?;
-    let mut cpu = processor(alloc, false, &program)?;
-    fabric.steward().post(VpIndex(0));
-    let mut port = fabric.port(VpIndex(0));
+    let (last, fabric) = posted(rt.alloc(), &[Op::Get(Name::Rax)])?;
     let undefined = Ending::Fault(GuestFault::Undefined);
-    assert_eq!(rt;
-        attempt(&mut cpu, &mut port, &program),
-        Some(CpuTurn::Ended(undefined))
-    );
+    assert_eq!(rt; last, Some(CpuTurn::Ended(undefined)));
     let start = Layout::of(&LIMITS).start as usize;
     assert_eq!(rt; fabric.words().get(start).copied(), Some(0));
     Ok(())
