@@ -1,7 +1,6 @@
 -- What contracts see of a journal.
 use Rattle.std.specs.Prelude.{ℕ, ◌+◌, ◌*◌, ◌<◌, List, [], ◌∷◌, ◌++◌}
 use Rattle.vsm_base.specs.declared.places.Limits.{Limits}
-use Rattle.vsm_base.specs.declared.places.Page.{Page}
 use Rattle.vsm_core.specs.declared.journal.Entry.{Entry}
 use Rattle.vsm_core.specs.declared.journal.Entry.TheVariants.{Ask}
 

@@ -3,7 +3,7 @@ use Rattle.std.specs.Prelude.{◌≡◌, ℕ, ◌^◌, ◌<◌, ◌≤◌, List,
 use Rattle.vsm_core.specs.declared.journal.Entry.{Entry}
 use Rattle.vsm_core.specs.Journal.{Tables, tables, rounds}
 
--- the tables are those of the entries, and the entries fit the room
+-- the tables are those of the entries, the entries fit the room, and all counts are within their ranges
 pub record IsKept (opening : List ℕ) (kept : Tables) (entries : List Entry) (room : ℕ) : Type 0 where
   pub of_entries : kept ≡ tables opening entries
   pub of_rounds : kept.rounds ≡ rounds entries

@@ -80,10 +80,8 @@ impl Journal {
         if page >= self.opening.len() as u64 {
             return Err(HvStatus::INVALID_PARAMETER);
         }
-        self.add(Entry::Ask {
-            page: Page(page as u32),
-            mask,
-        });
+        let page = Page(page as u32);
+        self.add(Entry::Ask { page, mask });
         Ok(())
     }
 
@@ -96,7 +94,8 @@ impl Journal {
 
     /// The mask of each page, by its number: the opening masks, with each ask applied in its turn.
     pub fn masks(&self) -> &[Mask]
-        ensures { result.now ≡ masks self.now.opening self.now.entries }
+        ensures masks { result.now ≡ masks self.now.opening self.now.entries }
+        ensures pages { length result.now ≡ length self.now.opening }
     {
         &self.tables.masks
     }
