@@ -33,7 +33,7 @@ fn has_stray_bits(value: u64) -> bool
 
 /// Whether this call refuses an input value.
 #[tactic(auto, unfolding(vsm_core::specs::Calls::form_checks))]
-fn is_malformed(form: CallForm, value: u64) -> bool
+pub fn is_malformed(form: CallForm, value: u64) -> bool
     ensures { result ≡ is_malformed_lem (row_from form) value }
 {
     let Control {
@@ -51,7 +51,8 @@ fn is_malformed(form: CallForm, value: u64) -> bool
 }
 
 impl Control {
-    fn of(value: u64) -> Control
+    /// The fields of an input value.
+    pub(crate) fn of(value: u64) -> Control
         ensures { control_from result ≡ control_in value }
     {
         Control {

@@ -20,8 +20,8 @@ pub struct CallForm {
     pub output: u16,
 }
 
-/// The call of this code: 0x000D is HvCallEnablePartitionVtl and 0x000F is HvCallEnableVpVtl (TLFS, Virtual Secure
-/// Mode). That these are all calls, and that the second may not be fast, is this project's own.
+/// The call of this code: 0x000D is HvCallEnablePartitionVtl and 0x000F is HvCallEnableVpVtl, neither of them a rep call
+/// (TLFS, Virtual Secure Mode). That there are no other calls is this project's own.
 ///
 /// `None` exactly where no call has the code.
 #[tactic(auto, unfolding(vsm_core::specs::Calls::row_of, vsm_core::specs::Calls::rows))]

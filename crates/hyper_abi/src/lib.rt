@@ -10,3 +10,6 @@ pub use control::Control;
 pub use form::{CallForm, form_of};
 pub use page::InputPage;
 pub use result_value::ResultValue;
+
+#[cfg(test)]
+mod tests;
