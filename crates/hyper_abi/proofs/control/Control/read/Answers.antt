@@ -1,4 +1,4 @@
-use Rattle.std.proofs.Common.{◌≡◌, ℕ, true, false, Some, ap, sym, ◌∙◌, rules}
+use Rattle.std.proofs.Common.{◌≡◌, true, false, Some, rules}
 use Rattle.vsm_core.specs.Calls.{row_of, code_in, is_malformed}
 use Rattle.hyper_abi.specs.Told.{row_from}
 use Rattle.hyper_abi.proofs.Checks.{read-malformed, read-well}
