@@ -6,9 +6,9 @@ const ENABLE_PARTITION_VTL: u64 = 0x000D;
 
 const ENABLE_VP_VTL: u64 = 0x000F;
 
-/// A rep call, of which there is none yet.
+/// A rep call of these tests alone.
 const REP: CallForm = CallForm {
-    code: 0x000C,
+    code: 0x0001,
     rep: true,
     fast: false,
     header: 16,
@@ -64,7 +64,7 @@ fn count_and_start_are_refused_where_there_are_no_elements(rt: HostRuntime) {
 
 #[test]
 fn an_unknown_code_is_refused_before_all_else(rt: HostRuntime) {
-    for value in [0, 0x000C, 0x000E, 0x0010, 0xFFFF, 0xFFFF_FFFF_FFFF_0000] {
+    for value in [0, 0x0001, 0x000E, 0x0010, 0xFFFF, 0xFFFF_FFFF_FFFF_0000] {
         assert!(rt; is_refused(value, HvStatus(0x0002)), "{value}");
     }
 }
@@ -94,24 +94,24 @@ fn each_field_is_read_from_its_bits(rt: HostRuntime) {
 
 #[test]
 fn a_rep_call_begins_below_its_count(rt: HostRuntime) {
-    assert!(rt; is_malformed(REP, 0x0000_0000_0000_000C), "no element");
+    assert!(rt; is_malformed(REP, 0x0000_0000_0000_0001), "no element");
     assert!(rt;
-        !is_malformed(REP, 0x0000_0001_0000_000C),
+        !is_malformed(REP, 0x0000_0001_0000_0001),
         "the only element"
     );
     assert!(rt;
-        is_malformed(REP, 0x0001_0001_0000_000C),
+        is_malformed(REP, 0x0001_0001_0000_0001),
         "past the only element"
     );
     assert!(rt;
-        !is_malformed(REP, 0x0FFE_0FFF_0000_000C),
+        !is_malformed(REP, 0x0FFE_0FFF_0000_0001),
         "the last element"
     );
     assert!(rt;
-        is_malformed(REP, 0x0FFF_0FFF_0000_000C),
+        is_malformed(REP, 0x0FFF_0FFF_0000_0001),
         "past the last element"
     );
-    assert!(rt; is_malformed(REP, 0x0000_0001_0001_000C), "fast");
+    assert!(rt; is_malformed(REP, 0x0000_0001_0001_0001), "fast");
 }
 
 #[test]
