@@ -1,5 +1,6 @@
 pub mod Access
 pub mod Attempt
+pub mod Calls
 pub mod Controllers
 pub mod Fills
 pub mod Journal

@@ -1,0 +1,50 @@
+// The calls there are.
+ghost use Rattle.std.specs.Prelude.{◌≡◌, option_map};
+ghost use Rattle.vsm_core.specs.Calls.{row_of};
+ghost use Rattle.hyper_abi.specs.Told.{row_from};
+
+/// The form of a call's input and output (TLFS, Hypercall Interface).
+#[derive(Clone, Copy, Debug, PartialEq, Eq)]
+pub struct CallForm {
+    /// The call's code.
+    pub code: u16,
+    /// Whether it is a rep call, which does one element after the other.
+    pub rep: bool,
+    /// Whether it may be fast: its input may stand in registers in place of memory.
+    pub fast: bool,
+    /// How many bytes its header has.
+    pub header: u16,
+    /// How many bytes each of its elements has, 0 where it has none.
+    pub element: u16,
+    /// How many bytes it puts out for each element, 0 where it puts out nothing.
+    pub output: u16,
+}
+
+/// The call of this code: 0x000D is HvCallEnablePartitionVtl and 0x000F is HvCallEnableVpVtl, neither of them a rep call
+/// (TLFS, Virtual Secure Mode). That there are no other calls is this project's own.
+///
+/// `None` exactly where no call has the code.
+#[tactic(auto, unfolding(vsm_core::specs::Calls::row_of, vsm_core::specs::Calls::rows))]
+pub fn form_of(code: u16) -> Option<CallForm>
+    ensures { option_map row_from result ≡ row_of code }
+{
+    match code {
+        0x000D => Some(CallForm {
+            code,
+            rep: false,
+            fast: true,
+            header: 16,
+            element: 0,
+            output: 0,
+        }),
+        0x000F => Some(CallForm {
+            code,
+            rep: false,
+            fast: false,
+            header: 240,
+            element: 0,
+            output: 0,
+        }),
+        _ => None,
+    }
+}
