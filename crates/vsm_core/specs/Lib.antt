@@ -1,9 +1,7 @@
 pub mod Access
 pub mod Attempt
-pub mod Calls
 pub mod Controllers
 pub mod Fills
-pub mod Journal
 pub mod Messages
 pub mod Outcomes
 pub mod Processor
