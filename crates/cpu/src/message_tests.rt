@@ -348,33 +348,6 @@ fn an_end_of_message_sends_the_note_that_waits(rt: HostRuntime) -> Result<(), Fa
 }
 
 #[test]
-fn the_oldest_note_is_sent_first_and_says_that_more_wait(rt: HostRuntime) -> Result<(), Fail> {
-    let alloc = rt.alloc();
-    let other = Op::Store(Gva(0x330), Operand::Number(7));
-    let zero = [Op::Eom, STORE, other];
-    let one = [Op::VtlReturn, Op::Eom, Op::Eom, Op::Eom, Op::Eom];
-    let puts = [(Vtl::Zero, Name::Rcx, 1)];
-    // The first store is denied once, and then granted.
-    let answers = [
-        ROUND, 1, TAKEN, ROUND, 15, ROUND, 1, TAKEN, ROUND, 0, ROUND, 0,
-    ];
-    let cpu = after(alloc, &zero, &one, &puts, &answers, 7)?;
-    let ends = whats(alloc, cpu.marks())?;
-    assert_eq!(rt; ends.get(0).copied(), Some(denied(Posted::Waiting)));
-    assert_eq!(rt; ends.get(3).copied(), Some(denied(Posted::Waiting)));
-    assert_eq!(rt; ends.get(4).copied(), ended(EomWord::Slot));
-    assert_eq!(rt; ends.get(5).copied(), ended(EomWord::Slot));
-    assert_eq!(rt; ends.get(6).copied(), ended(EomWord::Nothing));
-    assert_eq!(rt; event_of(&cpu, 4, 3), Some(slot(0, 0x0000_0150_8000_0001)));
-    assert_eq!(rt; event_of(&cpu, 4, 8), Some(slot(5, 1)));
-    assert_eq!(rt; event_of(&cpu, 4, 11), Some(slot(8, 0x328)));
-    assert_eq!(rt; event_of(&cpu, 5, 3), Some(slot(0, 0x0000_0050_8000_0001)));
-    assert_eq!(rt; event_of(&cpu, 5, 8), Some(slot(5, 2)));
-    assert_eq!(rt; event_of(&cpu, 5, 11), Some(slot(8, 0x330)));
-    Ok(())
-}
-
-#[test]
 fn an_end_of_message_waits_where_the_slot_is_taken(rt: HostRuntime) -> Result<(), Fail> {
     let alloc = rt.alloc();
     let answers = [ROUND, 1, TAKEN, ROUND, TAKEN, ROUND, 0];
