@@ -165,30 +165,6 @@ fn a_call_may_lead_to_the_end(rt: HostRuntime) -> Result<(), Fail> {
 }
 
 #[test]
-fn a_switch_that_is_not_lawful_is_undefined(rt: HostRuntime) -> Result<(), Fail> {
-    let alloc = rt.alloc();
-    let user = 3 << 96;
-    let zero = refused(Vtl::Zero);
-    let one = refused(Vtl::One);
-    assert_eq!(rt;
-        tried(alloc, Op::VtlCall, (Vtl::Zero, Name::Cs, user))?,
-        zero
-    );
-    assert_eq!(rt; tried(alloc, Op::VtlCall, (Vtl::Zero, Name::Rcx, 1))?, zero);
-    assert_eq!(rt; tried(alloc, Op::VtlCall, (Vtl::One, Name::Rcx, 0))?, one);
-    assert_eq!(rt;
-        tried(alloc, Op::VtlReturn, (Vtl::One, Name::Cs, user))?,
-        one
-    );
-    assert_eq!(rt; tried(alloc, Op::VtlReturn, (Vtl::One, Name::Rcx, 2))?, one);
-    assert_eq!(rt;
-        tried(alloc, Op::VtlReturn, (Vtl::Zero, Name::Rcx, 0))?,
-        zero
-    );
-    Ok(())
-}
-
-#[test]
 fn a_call_needs_level_one(rt: HostRuntime) -> Result<(), Fail> {
     let (cpu, last) = called_too_early(rt.alloc())?;
     let ended = CpuTurn::Ended(Ending::Fault(UNDEFINED));

@@ -217,25 +217,6 @@ fn span(cpu: &Cpu, place: usize) -> Option<(u32, u32)> {
 }
 
 #[test]
-fn a_fault_and_the_budget_end_it(rt: HostRuntime) -> Result<(), Fail> {
-    let alloc = rt.alloc();
-    assert_eq!(rt; outcome(alloc, Op::Jump(0))?, (10, Some(Ending::Budget)));
-    assert_eq!(rt; outcome(alloc, Op::Jump(1))?, (1, Some(Ending::Done)));
-    let fault = Some(Ending::Fault(GuestFault::Align));
-    assert_eq!(rt; outcome(alloc, Op::Load(Name::Rax, Gva(4)))?, (1, fault));
-    let fault = Some(Ending::Fault(GuestFault::Unmapped));
-    assert_eq!(rt;
-        outcome(alloc, Op::Load(Name::Rax, Gva(0x2000)))?,
-        (1, fault)
-    );
-    let fault = Some(Ending::Fault(GuestFault::Gp));
-    assert_eq!(rt; outcome(alloc, Op::Set(Name::Cr3, 1 << 64))?, (1, fault));
-    let fault = Some(Ending::Fault(GuestFault::Undefined));
-    assert_eq!(rt; outcome(alloc, Op::Hypercall)?, (1, fault));
-    Ok(())
-}
-
-#[test]
 fn a_posted_start_is_taken(rt: HostRuntime) -> Result<(), Fail> {
     let (last, fabric) = posted(rt.alloc(), &[Op::Get(Name::Rax)])?;
     let undefined = Ending::Fault(GuestFault::Undefined);
