@@ -3,7 +3,7 @@ use Rattle.std.proofs.Common.{◌≡◌, ◌||◌, ℕ, Bool, true, false, cond,
 use Rattle.std.specs.List.{list_any}
 use Rattle.vsm_base.specs.declared.status.HvStatus.{HvStatus}
 use Rattle.vsm_base.specs.declared.status.TheConstants.HvStatus as statuses
-use Rattle.hyper_abi.specs.Calls.{Row, Check, first_failed, form_checks, is_malformed, read, row_of, code_in, control_in}
+use Rattle.vsm_core.specs.Calls.{Row, Check, first_failed, form_checks, is_malformed, read, row_of, code_in, control_in}
 
 -- each check has this status
 abbrev Alike : HvStatus → List Check → Type 0

@@ -1,6 +1,6 @@
 -- Calls and input values, as the definitions have them.
 use Rattle.std.specs.Prelude.{ℕ, Bool, not, ◌||◌, ◌==◌}
-use Rattle.hyper_abi.specs.Calls.{Row, Control as Asked, header_size_in, bits_31_to_27, bits_47_to_44, bits_63_to_60}
+use Rattle.vsm_core.specs.Calls.{Row, Control as Asked, header_size_in, bits_31_to_27, bits_47_to_44, bits_63_to_60}
 use Rattle.hyper_abi.specs.declared.form.CallForm.{CallForm}
 use Rattle.hyper_abi.specs.declared.control.Control.{Control}
 

@@ -1,6 +1,6 @@
 // What an input value asks for.
 ghost use Rattle.std.specs.Prelude.{◌≡◌, ◌↔◌, ◌<◌, IsErrOf, IsNone, IsSome, IsSomeAnd, IsTrue, IfOk, MatchResult};
-ghost use Rattle.hyper_abi.specs.Calls.{row_of, code_in, control_in, read, is_malformed as is_malformed_lem};
+ghost use Rattle.vsm_core.specs.Calls.{row_of, code_in, control_in, read, is_malformed as is_malformed_lem};
 ghost use Rattle.hyper_abi.specs.Told.{row_from, control_from, stray_bits};
 
 use crate::form::{CallForm, form_of};
@@ -32,7 +32,7 @@ fn has_stray_bits(value: u64) -> bool
 }
 
 /// Whether this call refuses an input value.
-#[tactic(auto, unfolding(crate::specs::Calls::form_checks))]
+#[tactic(auto, unfolding(vsm_core::specs::Calls::form_checks))]
 pub fn is_malformed(form: CallForm, value: u64) -> bool
     ensures { result ≡ is_malformed_lem (row_from form) value }
 {

@@ -1,6 +1,6 @@
 // The calls there are.
 ghost use Rattle.std.specs.Prelude.{◌≡◌, option_map};
-ghost use Rattle.hyper_abi.specs.Calls.{row_of};
+ghost use Rattle.vsm_core.specs.Calls.{row_of};
 ghost use Rattle.hyper_abi.specs.Told.{row_from};
 
 /// The form of a call's input and output (TLFS, Hypercall Interface).
@@ -24,7 +24,7 @@ pub struct CallForm {
 /// (TLFS, Virtual Secure Mode). That there are no other calls is this project's own.
 ///
 /// `None` exactly where no call has the code.
-#[tactic(auto, unfolding(crate::specs::Calls::row_of, crate::specs::Calls::rows))]
+#[tactic(auto, unfolding(vsm_core::specs::Calls::row_of, vsm_core::specs::Calls::rows))]
 pub fn form_of(code: u16) -> Option<CallForm>
     ensures { option_map row_from result ≡ row_of code }
 {

@@ -1,6 +1,6 @@
 // The page that holds a call's input.
 ghost use Rattle.std.specs.Prelude.{◌≡◌, ◌≢◌, ◌+◌, ◌*◌, ◌%◌, ◌^◌, ◌<◌, ◌↔◌, IsErrOf, IfOk, MatchResult, length as size_of};
-ghost use Rattle.hyper_abi.specs.Calls.{part_at, header_at, element_at};
+ghost use Rattle.vsm_core.specs.Calls.{part_at, header_at, element_at};
 
 use std::marker::Model;
 use vsm_base::HvStatus;

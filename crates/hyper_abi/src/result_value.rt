@@ -1,6 +1,6 @@
 // What a call answers.
 ghost use Rattle.std.specs.Prelude.{◌≡◌, ◌<◌};
-ghost use Rattle.hyper_abi.specs.Calls.{result_value, status_in, done_in};
+ghost use Rattle.vsm_core.specs.Calls.{result_value, status_in, done_in};
 
 use vsm_base::HvStatus;
 

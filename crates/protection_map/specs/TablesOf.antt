@@ -1,7 +1,7 @@
 -- The tables that are kept beside the entries.
 use Rattle.std.specs.Prelude.{◌≡◌, ℕ, ◌^◌, ◌<◌, ◌≤◌, List, length}
 use Rattle.vsm_core.specs.declared.journal.Entry.{Entry}
-use Rattle.protection_map.specs.Journal.{Tables, tables, rounds}
+use Rattle.vsm_core.specs.Journal.{Tables, tables, rounds}
 
 -- the tables are those of the entries, the entries fit the room, and all counts are within their ranges
 pub record IsKept (opening : List ℕ) (kept : Tables) (entries : List Entry) (room : ℕ) : Type 0 where

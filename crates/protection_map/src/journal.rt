@@ -1,6 +1,6 @@
 // The entries of a partition.
 ghost use Rattle.std.specs.Prelude.{◌≡◌, ◌↔◌, ◌<◌, ◌≤◌, length, slice_index, IsErr, IfOk, IfErr, OnOk, OnErr};
-ghost use Rattle.protection_map.specs.Journal.{masks, settled, rounds};
+ghost use Rattle.vsm_core.specs.Journal.{masks, settled, rounds};
 ghost use Rattle.protection_map.specs.JournalView.{empty_journal, with_entry, with_ask, IsWithin};
 
 use crate::tables::Tables;

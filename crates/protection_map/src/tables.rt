@@ -1,6 +1,6 @@
 // What the entries of a journal have come to.
 ghost use Rattle.std.specs.Prelude.{◌≡◌, ◌+◌, ◌<◌, ◌^◌, length, IfOk};
-ghost use Rattle.protection_map.specs.Journal.{tables_after, opening_tables};
+ghost use Rattle.vsm_core.specs.Journal.{tables_after, opening_tables};
 ghost use Rattle.protection_map.specs.JournalView.{IsWithin};
 
 use std::alloc::{AllocError, Global};
@@ -18,7 +18,7 @@ pub struct Tables {
 
 impl Model for Tables {
     ghost use Rattle.std.specs.Prelude.{◌≡◌, length};
-    ghost use Rattle.protection_map.specs.Journal.{Tables as TablesView};
+    ghost use Rattle.vsm_core.specs.Journal.{Tables as TablesView};
 
     ghost Value = { TablesView };
 

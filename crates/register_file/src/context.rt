@@ -1,7 +1,8 @@
 // The initial context of a level.
 ghost use Rattle.std.specs.Prelude.{◌≡◌, ◌+◌, ◌*◌, ◌^◌, ◌↔◌, IsOk, IsTrue, IfOk, IfErr};
 ghost use Rattle.vsm_core.specs.Registers.{opening_private};
-ghost use Rattle.register_file.specs.Contexts.{context_places, context_values, values_of, are_legal, placed};
+ghost use Rattle.register_file.specs.Contexts.{context_values};
+ghost use Rattle.vsm_core.specs.Contexts.{context_places, values_of, are_legal, placed};
 ghost use Rattle.register_file.specs.Values.{private_values};
 
 use crate::legal::is_legal;
@@ -58,7 +59,7 @@ fn wide(low: u64, high: u64) -> u128
 }
 
 impl Context {
-    #[tactic(auto, unfolding(crate::specs::Contexts::context_places))]
+    #[tactic(auto, unfolding(vsm_core::specs::Contexts::context_places))]
     fn is_legal(&self) -> bool
         ensures { result ≡ are_legal context_places (context_values self.now) }
     {
@@ -82,7 +83,7 @@ impl Context {
             && is_legal(Name::Pat, u128::from(self.pat))
     }
 
-    #[tactic(auto, unfolding(crate::specs::Contexts::context_places, crate::specs::Contexts::values_of))]
+    #[tactic(auto, unfolding(vsm_core::specs::Contexts::context_places, vsm_core::specs::Contexts::values_of))]
     fn of(words: &[u64; 28]) -> Context
         ensures { context_values result ≡ values_of words.now }
     {
@@ -129,7 +130,7 @@ impl Context {
 
     /// Makes a level's own registers the context's, and those that aren't in the context what they are at the
     /// opening.
-    #[tactic(auto, unfolding(crate::specs::Contexts::context_places, crate::specs::Contexts::placed, vsm_core::specs::Registers::opening_private, vsm_core::specs::Registers::private_names, vsm_core::specs::Registers::opening_value, vsm_base::specs::Names::all_names))]
+    #[tactic(auto, unfolding(vsm_core::specs::Contexts::context_places, vsm_core::specs::Contexts::placed, vsm_core::specs::Registers::opening_private, vsm_core::specs::Registers::private_names, vsm_core::specs::Registers::opening_value, vsm_base::specs::Names::all_names))]
     pub fn place(&self, set: &mut PrivateSet)
         ensures { private_values set.new ≡ placed (context_values self.now) }
     {

@@ -1,29 +1,33 @@
 -- The attempt of an operation. An operation that isn't built yet is an undefined one.
-use Rattle.std.specs.Prelude.{ℕ, ◌%◌, ◌^◌, ◌&&◌, Bool, true, false, if◌then◌else◌, is_some, List, [], ◌∷◌, ◌++◌, Option, Some, None}
-use Rattle.vsm_base.specs.Masks.{need}
+use Rattle.std.specs.Prelude.{ℕ, ◌/◌, ◌%◌, ◌^◌, ◌==◌, ◌&&◌, Bool, true, false, if◌then◌else◌, is_some, List, [], ◌∷◌, ◌++◌, Option, Some, None}
+use Rattle.vsm_base.specs.Masks.{allows, need}
 use Rattle.vsm_base.specs.declared.name.Name.TheVariants as names
 use Rattle.vsm_base.specs.declared.places.Access.{Access}
 use Rattle.vsm_base.specs.declared.places.Access.TheVariants.{Read, Write, Execute}
-use Rattle.vsm_base.specs.declared.places.Vtl.TheVariants.{One}
+use Rattle.vsm_base.specs.declared.places.Vtl.{Vtl}
+use Rattle.vsm_base.specs.declared.places.Vtl.TheVariants.{Zero, One}
+use Rattle.vsm_base.specs.declared.status.HvStatus.{HvStatus}
 use Rattle.vsm_core.specs.declared.mark.Grant.{Grant}
 use Rattle.vsm_core.specs.declared.mark.GuestFault.{GuestFault}
 use Rattle.vsm_core.specs.declared.mark.GuestFault.TheVariants.{Undefined}
 use Rattle.vsm_core.specs.declared.mark.Posted.{Posted}
 use Rattle.vsm_core.specs.declared.mark.Posted.TheVariants.{Held}
 use Rattle.vsm_core.specs.declared.mark.What.{What}
-use Rattle.vsm_core.specs.declared.mark.What.TheVariants.{Denied, Entered, Plain, Eom}
+use Rattle.vsm_core.specs.declared.mark.What.TheVariants.{Denied, Reply, Entered, Plain, Eom}
 use Rattle.vsm_core.specs.declared.note.Note.{Note}
 use Rattle.vsm_core.specs.declared.operation.Op.{Op}
-use Rattle.vsm_core.specs.declared.operation.Op.TheVariants.{Set, Get, Load, Store, Exec, Spin, Jump, JumpNe, VtlCall, VtlReturn, Poll, Ack, Eoi}
+use Rattle.vsm_core.specs.declared.operation.Op.TheVariants.{Set, Get, Load, Store, Exec, Spin, Jump, JumpNe, Hypercall, VtlCall, VtlReturn, Poll, Ack, Eoi}
 use Rattle.vsm_core.specs.declared.operation.Op.TheVariants as ops
 use Rattle.vsm_core.specs.Access.{Goal, Decision, Grants, Denies, Faults, access, start_fault}
+use Rattle.vsm_core.specs.Calls.{Row, row_of, code_in, is_fast}
 use Rattle.vsm_core.specs.Controllers.{Controllers, message_page, post_steps, eom_steps, vector_words, with_taken}
 use Rattle.vsm_core.specs.Fills.{Cached}
+use Rattle.vsm_core.specs.Hypercalls.{input_value, input_address, fast_words, input_refusal, request_of, refused_call, replied}
 use Rattle.vsm_core.specs.Outcomes.{Origin, Outcome, Refusal, faulted, plain, outcome_at, fills, loaded, passed, spun, set_outcome, get_outcome, jumped, note_of, held_outcome, denied_outcome, ack_outcome, eoi_outcome, eom_outcome}
 use Rattle.vsm_core.specs.Registers.{get as get_in}
 use Rattle.vsm_core.specs.State.{State, gone_to, gone_on, word_of, privilege_of, operand}
 use Rattle.vsm_core.specs.Switch.{may_call, may_return, may_enter, called, returned, entered, is_zero, assist_page, restored_from, reason_index, rax_index, rcx_index, by_call, by_interrupt, entry_word}
-use Rattle.vsm_core.specs.Tree.{Tree, Ends, Asks, WordStep, Entering, Checking, Reading, Writing, Leaving, then_, asks_all, takes}
+use Rattle.vsm_core.specs.Tree.{Tree, Ends, Asks, Wants, WordStep, Entering, Checking, Masking, Reading, Writing, Leaving, then_, asks_all, takes, reads}
 use Rattle.vsm_core.specs.Vectors.{deliverable}
 
 -- an access that has begun ends by its leave
@@ -155,6 +159,50 @@ abbrev pub eom_tree : Origin → Tree Outcome
 eom_tree from =
     if is_zero from.state.active then Ends (eom_outcome from None) else eom_on from (message_page from.pages from.state) from.controllers.waiting
 
+-- the call is served once its input is known
+abbrev pub requests : Origin → ℕ → List ℕ → Tree Outcome
+requests from code words = Wants (request_of from code words) (λ reply. Ends (replied from reply))
+
+-- the access in which the input was read is left before
+abbrev pub left_for : Origin → ℕ → List ℕ → Tree Outcome
+left_for from code words = Asks Leaving (λ _. requests from code words)
+
+-- the words of the header are read
+abbrev pub reads_input : Origin → Row → ℕ → Tree Outcome
+reads_input from row address = reads (address / 4096) (address % 4096 / 8) (row.header / 8) [] (left_for from row.code)
+
+-- level 0 is denied an input whose page it may not read; there is no address of the operation
+abbrev pub by_input_mask : Origin → ℕ → ℕ → Tree Outcome → ℕ → Tree Outcome
+by_input_mask from address generation rest mask =
+    if allows mask Read then rest
+    else refused from None (record { page = address / 4096; mask = mask; generation = generation; access = Read; gpa = address }) []
+
+-- level 0 loads the mask of the input's page; no mask binds level 1
+abbrev pub behind_input_mask : Vtl → Origin → ℕ → ℕ → Tree Outcome → Tree Outcome
+behind_input_mask Zero from address generation rest = Asks (Masking (address / 4096)) (by_input_mask from address generation rest)
+behind_input_mask One from address generation rest = rest
+
+-- the input stands in memory
+abbrev pub by_memory : Origin → Row → ℕ → Tree Outcome
+by_memory from row address =
+    Asks Entering (λ _. Asks Checking (λ generation. behind_input_mask from.state.active from address generation (reads_input from row address)))
+
+abbrev pub admitted : Origin → Row → Tree Outcome
+admitted from row =
+    if is_fast (input_value from.state) then requests from row.code (fast_words from.state) else by_memory from row (input_address from.state)
+
+abbrev pub by_refusal : Origin → Option Row → Option HvStatus → Tree Outcome
+by_refusal from row (Some status) = Ends (refused_call from status)
+by_refusal from None None = Ends (faulted from Undefined)
+by_refusal from (Some row) None = admitted from row
+
+-- a hypercall is made at privilege level 0
+abbrev pub hypercall_tree : Origin → Tree Outcome
+hypercall_tree from =
+    if privilege_of from.state == 0
+    then by_refusal from (row_of (code_in (input_value from.state))) (input_refusal from.pages (row_of (code_in (input_value from.state))) (input_value from.state) (input_address from.state))
+    else Ends (faulted from Undefined)
+
 -- the whole attempt of an operation
 abbrev pub attempt : Origin → Op → Tree Outcome
 attempt from (Set name value) = Ends (set_outcome from name value)
@@ -165,6 +213,7 @@ attempt from (Exec gva) = by_access from (passed from.state) (goal_of from.pages
 attempt from (Spin gva value) = by_access from (spun from.state value) (goal_of from.pages from.state Read true gva.0 0)
 attempt from (Jump rip) = Ends (plain from (gone_to from.state rip))
 attempt from (JumpNe name value rip) = Ends (plain from (jumped from.state name value rip))
+attempt from Hypercall = hypercall_tree from
 attempt from VtlCall = call_tree from
 attempt from VtlReturn = return_tree from
 attempt from Poll = takes vector_words [] (polled from)
@@ -178,10 +227,11 @@ abbrev pub most_denied : Posted → ℕ
 most_denied Held = 12
 most_denied _ = 27
 
--- how many steps an attempt may have that came to this
+-- how many steps an attempt may have that came to this; a hypercall reads at most thirty words
 abbrev pub most_steps_of : What → ℕ
 most_steps_of (Denied denial) = most_denied denial.posted
 most_steps_of (Eom word) = 17
+most_steps_of (Reply value) = 34
 most_steps_of _ = 13
 
 abbrev pub most_steps : Outcome → ℕ

@@ -15,6 +15,10 @@ use Rattle.vsm_core.specs.declared.mark.Ending.{Ending}
 use Rattle.vsm_core.specs.declared.mark.Ending.TheVariants as endings
 use Rattle.vsm_core.specs.declared.operation.Op.{Op}
 use Rattle.vsm_core.specs.declared.operation.Program.{Program}
+use Rattle.vsm_core.specs.declared.journal.Entry.{Entry}
+use Rattle.vsm_core.specs.declared.partition_state.PartitionState.{PartitionState}
+use Rattle.vsm_core.specs.declared.request.Request.{Request}
+use Rattle.vsm_core.specs.Served.{answer, block}
 use Rattle.vsm_core.specs.State.{State, rip_of, opening_state}
 use Rattle.vsm_core.specs.Steps.{learned}
 use Rattle.vsm_core.specs.Tree.{Tree, Ends, Asks, Wants, follow}
@@ -25,7 +29,8 @@ use Rattle.vsm_core.specs.Whole.{Flat, Stop, run_on}
 
 -- a processor: what it was made with, its state, what its interrupt controllers hold, the operation that it keeps on with, what it has left, and its ending.
 -- The events of the attempt under way are those seen from `first` on. The events from `part` to `first` are of a spin's
--- last attempt that found another value. Its mark is the last one as long as `again` holds
+-- last attempt that found another value. Its mark is the last one as long as `again` holds. While it `owes`, it waits for
+-- the reply to the request of its attempt
 pub record Vp : Type 0 where
   pub number : ℕ
   pub limits : Limits
@@ -41,6 +46,7 @@ pub record Vp : Type 0 where
   pub first : ℕ
   pub again : Bool
   pub spins : ℕ
+  pub owes : Bool
   pub ended : Option Ending
 
 -- how many reads of spins may find another value
@@ -106,6 +112,7 @@ opening number limits started zero_length one_length = record {
   first = 0;
   again = false;
   spins = 0;
+  owes = false;
   ended = if started then ran_out zero_length limits.budget 0 0 else None;
 }
 
@@ -179,6 +186,13 @@ settled (Ends o) v = came_to o.what v o
 settled (Asks s k) v = v
 settled (Wants q k) v = v
 
+-- the processor as it waits for the reply to the request of this operation, and once it has it
+abbrev pub asking : Option Op → Vp → Vp
+asking op v = record v { op = op; marks = standing v; again = false; owes = true }
+
+abbrev pub answered : Vp → Vp
+answered v = record v { owes = false }
+
 -- what an attempt of the processor begins with
 abbrev pub origin_of : Vp → Origin
 origin_of v = origin_in v.limits v.number v.state v.controllers
@@ -195,22 +209,25 @@ answers_of seen first = map learned (drop first seen)
 abbrev pub rest_of : Vp → Option Op → Tree Outcome
 rest_of v op = follow (tree_of (origin_of v) op) (answers_of v.seen v.first)
 
--- the processor after these events and at this place of its attempt
-abbrev pub stopped_at : Option Op → Vp → List Event → Tree Outcome → Vp
-stopped_at op v es at = settled at (fold (saw op) v es)
-
--- a processor and the words on which it works
+-- a processor and the words on which it works, and the requests of its attempt that were served, each with its entries
 pub record Did (W : Type 0) : Type 0 where
   pub vp : Vp
   pub words : W
+  pub served : List (Request × List Entry)
 
-abbrev pub did_stop : {W : Type 0} → Option Op → Vp → Stop Outcome W → Did W
-did_stop op v stop = record { vp = stopped_at op v stop.events stop.at; words = stop.words }
+-- the attempt has come to its end, or its request is served by this partition at once and it comes to its end by the reply
+abbrev pub did_at : {W : Type 0} → PartitionState → Vp → W → Tree Outcome → Did W
+did_at s v words (Ends o) = record { vp = settled (Ends o) v; words = words; served = [] }
+did_at s v words (Asks step k) = record { vp = v; words = words; served = [] }
+did_at s v words (Wants q k) = record { vp = settled (k (answer s q)) v; words = words; served = (q, block s q) ∷ [] }
+
+abbrev pub did_stop : {W : Type 0} → PartitionState → Option Op → Vp → Stop Outcome W → Did W
+did_stop s op v stop = did_at s (fold (saw op) v stop.events) stop.words stop.at
 
 -- the whole attempt of the operation where its program stands, at once
-unfoldable pub attempted : Program → Vp → Flat → Did Flat
-attempted program v flat =
-    did_stop (operation_at program v.state) v (run_on v.limits v.number flat (tree_of (origin_of v) (operation_at program v.state)))
+unfoldable pub attempted : Program → Vp → PartitionState → Flat → Did Flat
+attempted program v s flat =
+    did_stop s (operation_at program v.state) v (run_on v.limits v.number flat (tree_of (origin_of v) (operation_at program v.state)))
 
 -- the marks that a processor has left since it was so
 abbrev pub new_marks : Vp → Vp → List Mark

@@ -1,5 +1,5 @@
 -- What is left of an attempt, as a tree.
-use Rattle.std.specs.Prelude.{ℕ, suc, ◌≤◌, List, [], ◌∷◌, ◌++◌}
+use Rattle.std.specs.Prelude.{ℕ, zero, suc, ◌≤◌, List, [], ◌∷◌, ◌++◌}
 use Rattle.vsm_core.specs.declared.event.PendingWord.{PendingWord}
 use Rattle.vsm_core.specs.declared.request.Request.{Request}
 use Rattle.vsm_core.specs.declared.request.Reply.{Reply}
@@ -48,6 +48,11 @@ asks_all (s ∷ steps) rest = Asks s (λ _. asks_all steps rest)
 abbrev pub takes : {A : Type 0} → List PendingWord → List ℕ → (List ℕ → Tree A) → Tree A
 takes [] found rest = rest found
 takes (word ∷ words) found rest = Asks (Taking word) (λ x. takes words (found ++ x ∷ []) rest)
+
+-- so many words of a page are read, from this place on, and then it goes on by them, after what was found before
+abbrev pub reads : {A : Type 0} → ℕ → ℕ → ℕ → List ℕ → (List ℕ → Tree A) → Tree A
+reads page index zero found rest = rest found
+reads page index (suc count) found rest = Asks (Reading page index) (λ x. reads page (suc index) count (found ++ x ∷ []) rest)
 
 -- whatever is answered, each end comes after no more steps than it may have; so many have been made already
 abbrev pub Counts : {A : Type 0} → (A → ℕ) → ℕ → Tree A → Type 0

@@ -7,6 +7,7 @@ mod laws;
 mod mark;
 mod note;
 mod operation;
+mod partition_state;
 mod request;
 mod view;
 
@@ -16,5 +17,6 @@ pub use laws::{attempts_are_short, attempts_are_sound, attempts_are_whole};
 pub use mark::{Denial, Ending, EomWord, Grant, GuestFault, Mark, Posted, What};
 pub use note::{MemNote, Note, RegNote};
 pub use operation::{Op, Operand, Program};
+pub use partition_state::{PartitionState, Standing};
 pub use request::{PartCall, Reply, Request, Served};
 pub use view::{PartitionView, ProcessorView, Told, Turning, View};

@@ -1,9 +1,9 @@
 -- The state of a processor, by its registers and its levels.
-use Rattle.std.specs.Prelude.{true}
 use Rattle.vsm_base.specs.declared.places.Vtl.{Vtl}
-use Rattle.vsm_core.specs.Registers.{Registers, with_private}
+use Rattle.vsm_core.specs.Contexts.{enabled_by}
+use Rattle.vsm_core.specs.Registers.{Registers}
 use Rattle.vsm_core.specs.State.{State}
-use Rattle.register_file.specs.Contexts.{context_values, placed}
+use Rattle.register_file.specs.Contexts.{context_values}
 use Rattle.register_file.specs.declared.context.Context.{Context}
 use Rattle.vtl_state.specs.Levels.{LevelsView}
 
@@ -12,8 +12,4 @@ state_of registers levels = record { registers = registers; active = levels.acti
 
 -- a level is enabled: its own registers become the context's, and those that the context doesn't name what they are at the opening
 abbrev pub enabled_with : State → Vtl → Context → State
-enabled_with state level context = record {
-  registers = with_private state.registers level (placed (context_values context));
-  active = state.active;
-  enabled = true;
-}
+enabled_with state level context = enabled_by state level (context_values context)

@@ -1,5 +1,5 @@
 use Rattle.std.proofs.Common.{◌≡◌, true, false, Some, rules}
-use Rattle.hyper_abi.specs.Calls.{row_of, code_in, is_malformed}
+use Rattle.vsm_core.specs.Calls.{row_of, code_in, is_malformed}
 use Rattle.hyper_abi.specs.Told.{row_from}
 use Rattle.hyper_abi.proofs.Checks.{read-malformed, read-well}
 use Rattle.hyper_abi.proofs.control.Control.read.Goals as goal

@@ -1,0 +1,74 @@
+-- A hypercall: what refuses it before its first step, what it asks of the partition, and what the reply does (TLFS, Hypercall Interface).
+use Rattle.std.specs.Prelude.{ℕ, ◌+◌, ◌*◌, ◌/◌, ◌%◌, ◌==◌, Bool, not, if◌then◌else◌, nat_le, Option, Some, None, List, [], ◌∷◌, ◌++◌}
+use Rattle.vsm_base.specs.declared.name.Name.TheVariants as names
+use Rattle.vsm_base.specs.declared.places.Vtl.{Vtl}
+use Rattle.vsm_base.specs.declared.status.HvStatus.{HvStatus}
+use Rattle.vsm_base.specs.declared.status.TheConstants.HvStatus as statuses
+use Rattle.vsm_core.specs.declared.mark.What.TheVariants.{Reply as Result}
+use Rattle.vsm_core.specs.declared.request.PartCall.{PartCall}
+use Rattle.vsm_core.specs.declared.request.PartCall.TheVariants.{EnablePartition, EnableVp}
+use Rattle.vsm_core.specs.declared.request.Reply.{Reply}
+use Rattle.vsm_core.specs.declared.request.Request.{Request}
+use Rattle.vsm_core.specs.Calls.{Row, Check, check, is_fast, count_in, form_checks, first_failed, part_checks, result_value}
+use Rattle.vsm_core.specs.Contexts.{with_context}
+use Rattle.vsm_core.specs.Outcomes.{Origin, Outcome, outcome_at}
+use Rattle.vsm_core.specs.State.{State, gone_on, put_legal, word_of}
+
+-- the input value, the address of the input, and what a fast call has in place of memory
+abbrev pub input_value : State → ℕ
+input_value state = word_of state names.Rcx
+
+abbrev pub input_address : State → ℕ
+input_address state = word_of state names.Rdx
+
+abbrev pub fast_words : State → List ℕ
+fast_words state = word_of state names.Rdx ∷ word_of state names.R8 ∷ []
+
+-- how many bytes the input has in memory
+abbrev pub input_size : Row → ℕ → ℕ
+input_size row value = row.header + row.element * count_in value
+
+-- the checks of where the input stands in memory: it begins at a multiple of 8 and doesn't pass the end of its page, and the page is there
+abbrev pub place_checks : ℕ → Row → ℕ → ℕ → List Check
+place_checks pages row value address =
+    part_checks (address % 4096) (address % 4096 + input_size row value) ++
+    check statuses.INVALID_PARAMETER (nat_le pages (address / 4096)) ∷ []
+
+-- all checks of a call that there is, in their order; a fast call has no input in memory
+abbrev pub input_checks : ℕ → Row → ℕ → ℕ → List Check
+input_checks pages row value address = form_checks row value ++ (if is_fast value then [] else place_checks pages row value address)
+
+-- what refuses a call before its first step, if something does
+abbrev pub input_refusal : ℕ → Option Row → ℕ → ℕ → Option HvStatus
+input_refusal pages None value address = Some statuses.INVALID_HYPERCALL_CODE
+input_refusal pages (Some row) value address = first_failed (input_checks pages row value address)
+
+-- what a call asks of the partition, by its code and the words of its input
+abbrev pub call_of : ℕ → List ℕ → PartCall
+call_of code words = if code == 0x000D then EnablePartition words else EnableVp words
+
+abbrev pub request_of : Origin → ℕ → List ℕ → Request
+request_of from code words = record { by = record { 0 = from.number }; level = from.state.active; call = call_of code words }
+
+-- a call's result goes to RAX, and the program goes on
+abbrev pub with_result : State → ℕ → State
+with_result state value = gone_on (put_legal state names.Rax value)
+
+abbrev pub result_outcome : Origin → State → HvStatus → ℕ → Outcome
+result_outcome from state status done = outcome_at from (Result (result_value status done)) (with_result state (result_value status done)) []
+
+-- a call that is refused before its first step
+abbrev pub refused_call : Origin → HvStatus → Outcome
+refused_call from status = result_outcome from from.state status 0
+
+-- of a reply's contexts a call takes that of the level which it enables
+abbrev pub own_context : Option (Vtl × List ℕ × Option (List ℕ)) → Option (Vtl × List ℕ)
+own_context None = None
+own_context (Some c) = Some (c.0, c.1)
+
+abbrev pub replied_with : Origin → HvStatus → ℕ → Option (Vtl × List ℕ) → Outcome
+replied_with from status done context = result_outcome from (with_context from.state context) status done
+
+-- a call that was served
+abbrev pub replied : Origin → Reply → Outcome
+replied from reply = replied_with from reply.status reply.done (own_context reply.context)

@@ -1,0 +1,21 @@
+// What the partition knows between two requests.
+use vsm_base::Items;
+
+/// What the partition knows of one processor.
+#[derive(Clone, Copy, Debug, PartialEq, Eq)]
+pub struct Standing {
+    /// Whether level 1 was enabled on it.
+    pub one: bool,
+    /// Whether it is started.
+    pub started: bool,
+    /// The words of level 1's context that wait for its start.
+    pub waiting: Option<[u64; 28]>,
+}
+
+/// The partition between two requests: whether level 1 is enabled for it (TLFS, HvCallEnablePartitionVtl), and its
+/// processors in the order of their numbers.
+#[derive(Debug, Drop)]
+pub struct PartitionState {
+    pub enabled: bool,
+    pub vps: Items<Standing>,
+}
