@@ -1,5 +1,5 @@
 -- How many steps an attempt has.
-use Rattle.std.proofs.Common.{◌≤◌, ◌+◌, ◌*◌, ◌%◌, ◌^◌, ◌==◌, ◌&&◌, ℕ, zero, suc, Bool, true, false, cond, nat_lt, Option, Some, None, List, [], ◌∷◌, ◌++◌, length, ◌≡◌, refl, ap, ◌∙◌, subst, arith}
+use Rattle.std.proofs.Common.{◌≤◌, ◌+◌, ◌*◌, ◌/◌, ◌%◌, ◌^◌, ◌==◌, ◌&&◌, ℕ, zero, suc, Bool, true, false, cond, nat_lt, Option, Some, None, List, [], ◌∷◌, ◌++◌, length, IfSome, ◌≡◌, refl, ap, ◌∙◌, subst, arith}
 use Rattle.std.proofs.lemmas.List.{length-append}
 use Rattle.vsm_base.specs.declared.name.Name.TheVariants as names
 use Rattle.vsm_base.specs.Masks.{allows}
@@ -7,6 +7,7 @@ use Rattle.vsm_base.specs.declared.places.Access.{Access}
 use Rattle.vsm_base.specs.declared.places.Access.TheVariants.{Read, Write, Execute}
 use Rattle.vsm_base.specs.declared.places.Vtl.{Vtl}
 use Rattle.vsm_base.specs.declared.places.Vtl.TheVariants.{Zero, One}
+use Rattle.vsm_base.specs.declared.status.HvStatus.{HvStatus}
 use Rattle.vsm_core.specs.declared.mark.Grant.{Grant}
 use Rattle.vsm_core.specs.declared.mark.GuestFault.{GuestFault}
 use Rattle.vsm_core.specs.declared.mark.GuestFault.TheVariants.{Unmapped, Page, Undefined, Gp}
@@ -18,11 +19,13 @@ use Rattle.vsm_core.specs.declared.mark.Posted.{Posted}
 use Rattle.vsm_core.specs.declared.mark.Posted.TheVariants.{Slot, Waiting, Held}
 use Rattle.vsm_core.specs.declared.note.Note.{Note}
 use Rattle.vsm_core.specs.declared.operation.Op.{Op}
-use Rattle.vsm_core.specs.declared.operation.Op.TheVariants.{Set, Get, Load, Store, Exec, Spin, VtlCall, VtlReturn, Poll}
+use Rattle.vsm_core.specs.declared.operation.Op.TheVariants.{Set, Get, Load, Store, Exec, Spin, Hypercall, VtlCall, VtlReturn, Poll}
 use Rattle.vsm_core.specs.declared.operation.Op.TheVariants as ops
 use Rattle.vsm_core.specs.declared.request.Reply.{Reply}
-use Rattle.vsm_core.specs.Tree.{Tree, Ends, Asks, Wants, WordStep, then_, asks_all, after, follow, Counts}
-use Rattle.vsm_core.specs.State.{State, gone_on, may_name, operand}
+use Rattle.vsm_core.specs.Tree.{Tree, Ends, Asks, Wants, WordStep, then_, asks_all, reads, after, follow, Counts}
+use Rattle.vsm_core.specs.Calls.{Row, row_of, rows, code_in, is_fast}
+use Rattle.vsm_core.specs.Hypercalls.{input_value, input_address, fast_words, input_refusal}
+use Rattle.vsm_core.specs.State.{State, gone_on, may_name, operand, privilege_of}
 use Rattle.vsm_core.specs.Fills.{Cached, Fill, Translation}
 use Rattle.vsm_core.specs.Walk.{Walked, Need, Mapped, Refused, walk}
 use Rattle.vsm_core.specs.Access.{Goal, Decision, Grants, Denies, Faults, data_step, covers, behind_mask, reaches, by_mask, at_page, entry_step, by_table_mask, at_table, tables, access, query_of, start_fault}
@@ -31,7 +34,7 @@ use Rattle.vsm_core.specs.Controllers.{Controllers, writes, rings, sint0_vector,
 use Rattle.vsm_core.specs.Messages.{message_words, flagged, is_free}
 use Rattle.vsm_core.specs.Outcomes.{Origin, Outcome, Refusal, faulted, plain, outcome_at, loaded, passed, spun, note_of, held_outcome, denied_outcome, eom_outcome}
 use Rattle.vsm_core.specs.Registers.{is_legal, get as get_in}
-use Rattle.vsm_core.specs.Attempt.{attempt, by_access, begun, leaves, left_with, in_own_access, told_on, by_slot, posting, tells, refused, most_denied, most_steps, most_steps_of, goal_of, returns, is_wanted, wanted_outcome, unwanted_outcome, polled_on, sending, sends, eom_on}
+use Rattle.vsm_core.specs.Attempt.{attempt, by_access, begun, leaves, left_with, in_own_access, told_on, by_slot, posting, tells, refused, most_denied, most_steps, most_steps_of, goal_of, returns, is_wanted, wanted_outcome, unwanted_outcome, polled_on, sending, sends, eom_on, requests, left_for, reads_input, by_input_mask, behind_input_mask, by_memory, by_refusal, hypercall_tree}
 
 pub Counts-then_ : {A B : Type 0} (most : A → ℕ) (most_then : B → ℕ) (n : ℕ) (t : Tree A) (f : A → Tree B) → Counts most n t → ((m : ℕ) (a : A) → m ≤ most a → Counts most_then m (f a)) → Counts most_then n (then_ t f)
 Counts-then_ most most_then n (Ends a) f h g = g n a h
@@ -230,7 +233,55 @@ set-counts b from state does = omega arith
 get-counts : (b : Bool) (from : Origin) (value : ℕ) (state : State) → Counts most_steps 0 (Ends (cond b (outcome_at from (Value value) state []) (faulted from Gp)))
 get-counts b from value state = omega arith
 
+-- the calls that there are have headers of at most 240 bytes
+row_few : (code : ℕ) → IfSome (row_of code) (λ row. row.header ≤ 240)
+unfolding row_of rows
+row_few code = two (0x000D == code) (0x000F == code) where
+  two : (b c : Bool) → IfSome {T = Row} (cond b (Some (record { code = 0x000D; is_rep = false; may_be_fast = true; header = 16; element = 0; output = 0 })) (cond c (Some (record { code = 0x000F; is_rep = false; may_be_fast = false; header = 240; element = 0; output = 0 })) None)) (λ row. row.header ≤ 240)
+  two true c = omega arith
+  two false true = omega arith
+  two false false = tt
+
+-- so many words are read, and then it goes on
+reads-counts : {A : Type 0} (most : A → ℕ) (n page index count : ℕ) (found : List ℕ) (rest : List ℕ → Tree A) → ((words : List ℕ) → Counts most (n + count) (rest words)) → Counts most n (reads page index count found rest)
+reads-counts most n page index zero found rest h = subst (λ m. Counts most m (rest found)) (omega arith) (h found)
+reads-counts most n page index (suc count) found rest h =
+    λ x. reads-counts most (suc n) page (suc index) count (found ++ x ∷ []) rest (λ words. subst (λ m. Counts most m (rest words)) (omega arith) (h words))
+
+requests-counts : (from : Origin) (code n : ℕ) (words : List ℕ) → n ≤ 34 → Counts most_steps n (requests from code words)
+requests-counts from code n words le = λ reply. le
+
+by_input_mask-counts : (from : Origin) (address generation mask n : ℕ) (rest : Tree Outcome) → n ≤ 11 → Counts most_steps n rest → Counts most_steps n (by_input_mask from address generation rest mask)
+by_input_mask-counts from address generation mask n rest le h =
+    let r : Refusal = record { page = address / 4096; mask = mask; generation = generation; access = Read; gpa = address } in
+    Counts-cond most_steps n (allows mask Read) rest (refused from None r []) h (refused-counts from None r [] n le)
+
+behind_input_mask-counts : (level : Vtl) (from : Origin) (address generation : ℕ) (rest : Tree Outcome) → Counts most_steps 2 rest → Counts most_steps 3 rest → Counts most_steps 2 (behind_input_mask level from address generation rest)
+behind_input_mask-counts Zero from address generation rest h g = λ mask. by_input_mask-counts from address generation mask 3 rest (omega arith) g
+behind_input_mask-counts One from address generation rest h g = h
+
+reads_input-counts : (from : Origin) (row : Row) (address n : ℕ) → row.header ≤ 240 → n ≤ 3 → Counts most_steps n (reads_input from row address)
+reads_input-counts from row address n few le =
+    reads-counts most_steps n (address / 4096) (address % 4096 / 8) (row.header / 8) [] (left_for from row.code) (λ words. λ x. requests-counts from row.code (suc (n + row.header / 8)) words (omega arith))
+
+by_memory-counts : (from : Origin) (row : Row) (address : ℕ) → row.header ≤ 240 → Counts most_steps 0 (by_memory from row address)
+by_memory-counts from row address few =
+    λ a. λ generation. behind_input_mask-counts from.state.active from address generation (reads_input from row address) (reads_input-counts from row address 2 few (omega arith)) (reads_input-counts from row address 3 few (omega arith))
+
+by_refusal-counts : (from : Origin) (row : Option Row) (refusal : Option HvStatus) → IfSome row (λ r. r.header ≤ 240) → Counts most_steps 0 (by_refusal from row refusal)
+by_refusal-counts from row (Some status) few = omega arith
+by_refusal-counts from None None few = omega arith
+by_refusal-counts from (Some row) None few =
+    Counts-cond most_steps 0 (is_fast (input_value from.state)) (requests from row.code (fast_words from.state)) (by_memory from row (input_address from.state)) (requests-counts from row.code 0 (fast_words from.state) (omega arith)) (by_memory-counts from row (input_address from.state) few)
+
+hypercall-counts : (from : Origin) → Counts most_steps 0 (hypercall_tree from)
+hypercall-counts from =
+    let value = input_value from.state in
+    let row = row_of (code_in value) in
+    Counts-cond most_steps 0 (privilege_of from.state == 0) (by_refusal from row (input_refusal from.pages row value (input_address from.state))) (Ends (faulted from Undefined)) (by_refusal-counts from row (input_refusal from.pages row value (input_address from.state)) (row_few (code_in value))) (omega arith)
+
 pub attempt-counts : (from : Origin) (op : Op) → Counts most_steps 0 (attempt from op)
+attempt-counts from Hypercall = hypercall-counts from
 attempt-counts from (Load name gva) = by_access-counts from (loaded from.state name) (goal_of from.pages from.state Read true gva.0 0) (λ grant. omega arith)
 attempt-counts from (Store gva what) = by_access-counts from (passed from.state) (goal_of from.pages from.state Write true gva.0 (operand from.state what)) (λ grant. omega arith)
 attempt-counts from (Exec gva) = by_access-counts from (passed from.state) (goal_of from.pages from.state Execute false gva.0 0) (λ grant. omega arith)
@@ -262,12 +313,12 @@ Counts-most most b reply n (Ends a) le h = let l = le a in omega arith
 Counts-most most b reply n (Asks s k) le h = let l = Counts-most most b reply (suc n) (k 0) le (h 0) in omega arith
 Counts-most most b reply n (Wants q k) le h = Counts-most most b reply n (k reply) le (h reply)
 
-pub most_steps-few : (o : Outcome) → most_steps o ≤ 27
+pub most_steps-few : (o : Outcome) → most_steps o ≤ 34
 most_steps-few o = few o.what where
   few_denied : (posted : Posted) → most_denied posted ≤ 27
   few_denied Held = omega arith
   few_denied _ = omega arith
 
-  few : (what : What) → most_steps_of what ≤ 27
-  few (Denied denial) = few_denied denial.posted
+  few : (what : What) → most_steps_of what ≤ 34
+  few (Denied denial) = let le = few_denied denial.posted in omega arith
   few _ = omega arith

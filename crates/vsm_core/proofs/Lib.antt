@@ -1,3 +1,4 @@
 pub mod Bounds
 pub mod SameAnswers
+pub mod ServedBlocks
 pub mod Soundness

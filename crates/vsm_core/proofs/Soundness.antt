@@ -1,5 +1,5 @@
 -- An attempt asks only what may be asked.
-use Rattle.std.proofs.Common.{◌≡◌, ◌≢◌, ◌<◌, ◌≤◌, ◌+◌, nat_le, length, ◌∙◌, ℕ, zero, suc, Bool, true, false, cond, nat_lt, Option, Some, None, List, [], ◌∷◌, ◌++◌, refl, subst, arith, ◌%◌, ◌/◌, ◌^◌, ◌==◌, ◌&&◌}
+use Rattle.std.proofs.Common.{◌≡◌, ◌≢◌, ◌<◌, ◌≤◌, ◌+◌, ◌*◌, nat_le, length, ◌∙◌, ℕ, zero, suc, Bool, true, false, not, cond, nat_lt, Option, Some, None, List, [], ◌∷◌, ◌++◌, refl, subst, arith, ◌%◌, ◌/◌, ◌^◌, ◌==◌, ◌&&◌}
 use Rattle.std.specs.List.{list_all}
 use Rattle.std.proofs.lemmas.Bool.Decides.{nat_tests}
 use Rattle.vsm_base.specs.Masks.{allows}
@@ -8,6 +8,8 @@ use Rattle.vsm_base.specs.declared.places.Access.TheVariants.{Read, Write, Execu
 use Rattle.vsm_base.specs.declared.places.Limits.{Limits}
 use Rattle.vsm_base.specs.declared.places.Vtl.{Vtl}
 use Rattle.vsm_base.specs.declared.places.Vtl.TheVariants.{Zero, One}
+use Rattle.vsm_base.specs.declared.status.HvStatus.{HvStatus}
+use Rattle.vsm_base.specs.declared.status.TheConstants.HvStatus.{INVALID_ALIGNMENT, INVALID_HYPERCALL_INPUT, INVALID_PARAMETER}
 use Rattle.vsm_core.specs.declared.event.Event.{Event}
 use Rattle.vsm_core.specs.declared.event.Phase.TheVariants.{Idle}
 use Rattle.vsm_core.specs.declared.mark.Grant.{Grant}
@@ -15,11 +17,13 @@ use Rattle.vsm_core.specs.declared.mark.GuestFault.{GuestFault}
 use Rattle.vsm_core.specs.declared.mark.GuestFault.TheVariants.{Unmapped, Page}
 use Rattle.vsm_core.specs.declared.mark.What.{What}
 use Rattle.vsm_core.specs.declared.operation.Op.{Op}
-use Rattle.vsm_core.specs.declared.operation.Op.TheVariants.{Load, Store, Exec, Spin, VtlCall, VtlReturn, Poll}
+use Rattle.vsm_core.specs.declared.operation.Op.TheVariants.{Load, Store, Exec, Spin, Hypercall, VtlCall, VtlReturn, Poll}
 use Rattle.vsm_core.specs.declared.operation.Op.TheVariants as ops
 use Rattle.vsm_core.specs.declared.note.Note.{Note}
-use Rattle.vsm_core.specs.Tree.{Tree, Ends, Asks, Wants, WordStep, Writing, Posting, then_, asks_all, takes}
-use Rattle.vsm_core.specs.State.{State, operand}
+use Rattle.vsm_core.specs.Tree.{Tree, Ends, Asks, Wants, WordStep, Masking, Writing, Leaving, Posting, then_, asks_all, takes, reads}
+use Rattle.vsm_core.specs.Calls.{Row, Check, check, row_of, code_in, count_in, is_fast as is_fast_call, first_failed, form_checks}
+use Rattle.vsm_core.specs.Hypercalls.{input_value, input_address, input_size, fast_words, input_refusal, place_checks}
+use Rattle.vsm_core.specs.State.{State, operand, privilege_of}
 use Rattle.vsm_core.specs.Steps.{IsIn, IsVectors, MayStep, made, phase_of}
 use Rattle.vsm_core.specs.Fills.{Cached, Fill, Translation}
 use Rattle.vsm_core.specs.Walk.{Query, Walked, Need, Mapped, Refused, walk, paged, of_entries, is_paging, is_canonical, is_present, is_right}
@@ -30,7 +34,7 @@ use Rattle.vsm_core.specs.Switch.{may_call, may_return, may_enter, is_zero, is_f
 use Rattle.vsm_core.specs.Controllers.{Controllers, message_page, message_steps, post_steps, pending_steps, writes, rings, sint0_vector, has_none, vector_words, with_taken}
 use Rattle.vsm_core.specs.Messages.{message_words, flagged, is_free}
 use Rattle.vsm_core.specs.Outcomes.{Origin, Outcome, Refusal, origin_in, outcome_at, faulted, fills, loaded, passed, spun, note_of, held_outcome, denied_outcome, eom_outcome}
-use Rattle.vsm_core.specs.Attempt.{attempt, by_access, begun, leaves, left_with, in_own_access, told_on, by_slot, posting, tells, refused, goal_of, returns, is_wanted, wanted_outcome, unwanted_outcome, polled_on, sending, polled, sends, eom_on}
+use Rattle.vsm_core.specs.Attempt.{attempt, by_access, begun, leaves, left_with, in_own_access, told_on, by_slot, posting, tells, refused, goal_of, returns, is_wanted, wanted_outcome, unwanted_outcome, polled_on, sending, polled, sends, eom_on, requests, left_for, reads_input, behind_input_mask, by_memory, by_refusal, hypercall_tree}
 use Rattle.vsm_core.proofs.Bounds.{words-twelve, flagged-length}
 use Rattle.vsm_core.specs.Sound.{Sound, IsOver}
 
@@ -283,6 +287,82 @@ module _ (limits : Limits) (number : ℕ) (state : State) (controllers : Control
   eom_on-sound es (Some page) (note ∷ more) there idle =
       (idle, λ a. (refl, λ b. ((tt, there, omega arith), λ word. sends-sound _ word tt)))
 
+-- the first check that fails refuses; where none refuses, none fails
+first_failed-cond : (b : Bool) (status : HvStatus) (checks : List Check) → cond b (Some status) (first_failed checks) ≡ None → (b ≡ false) × (first_failed checks ≡ None)
+first_failed-cond true status checks e = cc
+first_failed-cond false status checks e = (refl, e)
+
+first_failed-later : (checks more : List Check) → first_failed (checks ++ more) ≡ None → first_failed more ≡ None
+first_failed-later [] more e = e
+first_failed-later (c ∷ checks) more e = first_failed-later checks more (first_failed-cond c.fails c.status (checks ++ more) e).1
+
+-- the words of an input that isn't refused stand in a page that there is
+place-low : (pages : ℕ) (row : Row) (value address : ℕ) → first_failed (place_checks pages row value address) ≡ None
+    → (address / 4096 < pages) × (address % 4096 / 8 + row.header / 8 ≤ 512)
+place-low pages row value address e =
+    let offset : ℕ = address % 4096 in
+    let size = input_size row value in
+    let past : Bool = nat_lt 4096 (offset + size) in
+    let away : Bool = nat_le pages (address / 4096) in
+    let first = first_failed-cond (not (offset % 8 == 0)) INVALID_ALIGNMENT (check INVALID_HYPERCALL_INPUT past ∷ check INVALID_PARAMETER away ∷ []) e in
+    let second = first_failed-cond past INVALID_HYPERCALL_INPUT (check INVALID_PARAMETER away ∷ []) first.1 in
+    let third = first_failed-cond away INVALID_PARAMETER [] second.1 in
+    let aligned : not (offset % 8 == 0) ≡ false = first.0 in
+    let short : nat_lt 4096 (offset + (row.header + row.element * count_in value)) ≡ false = second.0 in
+    let there : nat_le pages (address / 4096) ≡ false = third.0 in
+    let product : ℕ = row.element * count_in value in
+    let short_too : nat_lt 4096 (offset + (row.header + product)) ≡ false = short in
+    (grind (arith, nat_tests, there), within offset row.header product aligned short_too)
+  where
+    within : (offset header product : ℕ) → not (offset % 8 == 0) ≡ false → nat_lt 4096 (offset + (header + product)) ≡ false → offset / 8 + header / 8 ≤ 512
+    within offset header product aligned short = grind (arith, nat_tests, aligned, short)
+
+reads-sound : {A : Type 0} (limits : Limits) (Q : List Event → A → Type 0) (es : List Event) (page index count : ℕ) (found : List ℕ) (rest : List ℕ → Tree A) → page < limits.pages → index + count ≤ 512 → IsIn (phase_of es)
+    → ((fs : List Event) (words : List ℕ) → IsIn (phase_of fs) → Sound limits Q fs (rest words)) → Sound limits Q es (reads page index count found rest)
+reads-sound limits Q es page index zero found rest low few inside h = h es found inside
+reads-sound limits Q es page index (suc count) found rest low few inside h =
+    ((inside, low, omega arith), λ x. reads-sound limits Q _ page (suc index) count (found ++ x ∷ []) rest low (omega arith) inside h)
+
+module _ (limits : Limits) (number : ℕ) (state : State) (controllers : Controllers) (low : number < limits.vps) where
+  abbrev caller : Origin
+  caller = origin_in limits number state controllers
+
+  requests-sound : (es : List Event) (code : ℕ) (words : List ℕ) → phase_of es ≡ Idle → Sound limits IsOver es (requests caller code words)
+  requests-sound es code words idle = (idle, λ reply. idle)
+
+  reads_input-sound : (es : List Event) (row : Row) (address : ℕ) → address / 4096 < limits.pages → address % 4096 / 8 + row.header / 8 ≤ 512 → IsIn (phase_of es) → Sound limits IsOver es (reads_input caller row address)
+  reads_input-sound es row address there few inside =
+      reads-sound limits IsOver es (address / 4096) (address % 4096 / 8) (row.header / 8) [] (left_for caller row.code) there few inside (λ fs words within. ((λ e. subst IsIn e within), λ x. requests-sound (made Leaving x ∷ fs) row.code words refl))
+
+  behind_input_mask-sound : (level : Vtl) (es : List Event) (address generation : ℕ) (rest : Tree Outcome) → address / 4096 < limits.pages → IsIn (phase_of es) → ((fs : List Event) → IsIn (phase_of fs) → Sound limits IsOver fs rest) → Sound limits IsOver es (behind_input_mask level caller address generation rest)
+  behind_input_mask-sound Zero es address generation rest there inside h =
+      ((inside, there), λ mask.
+      let fs = made (Masking (address / 4096)) mask ∷ es in
+      let r : Refusal = record { page = address / 4096; mask = mask; generation = generation; access = Read; gpa = address } in
+      Sound-cond limits IsOver fs (allows mask Read) rest (refused caller None r []) (λ _. h fs inside) (refused-sound limits number state controllers low fs None r [] inside))
+  behind_input_mask-sound One es address generation rest there inside h = h es inside
+
+  by_memory-sound : (es : List Event) (row : Row) (address : ℕ) → (address / 4096 < limits.pages) × (address % 4096 / 8 + row.header / 8 ≤ 512) → phase_of es ≡ Idle → Sound limits IsOver es (by_memory caller row address)
+  by_memory-sound es row address place idle =
+      (idle, λ a. (refl, λ generation. behind_input_mask-sound state.active _ address generation (reads_input caller row address) place.0 tt (λ fs inside. reads_input-sound fs row address place.0 place.1 inside)))
+
+  admitted-sound : (fast : Bool) (es : List Event) (row : Row) (value address : ℕ) → first_failed (form_checks row value ++ cond fast [] (place_checks limits.pages row value address)) ≡ None → phase_of es ≡ Idle
+      → Sound limits IsOver es (cond fast (requests caller row.code (fast_words state)) (by_memory caller row address))
+  admitted-sound true es row value address e idle = requests-sound es row.code (fast_words state) idle
+  admitted-sound false es row value address e idle =
+      by_memory-sound es row address (place-low limits.pages row value address (first_failed-later (form_checks row value) (place_checks limits.pages row value address) e)) idle
+
+  by_refusal-sound : (es : List Event) (row : Option Row) (refusal : Option HvStatus) → input_refusal limits.pages row (input_value state) (input_address state) ≡ refusal → phase_of es ≡ Idle → Sound limits IsOver es (by_refusal caller row refusal)
+  by_refusal-sound es row (Some status) e idle = idle
+  by_refusal-sound es None None e idle = idle
+  by_refusal-sound es (Some row) None e idle = admitted-sound (is_fast_call (input_value state)) es row (input_value state) (input_address state) e idle
+
+  hypercall-sound : (es : List Event) → phase_of es ≡ Idle → Sound limits IsOver es (hypercall_tree caller)
+  hypercall-sound es idle =
+      let value = input_value state in
+      let row = row_of (code_in value) in
+      Sound-cond limits IsOver es (privilege_of state == 0) (by_refusal caller row (input_refusal limits.pages row value (input_address state))) (Ends _) (λ _. by_refusal-sound es row (input_refusal limits.pages row value (input_address state)) refl idle) idle
+
 -- whatever was found in words of pending vectors
 polls-sound : (limits : Limits) (es : List Event) (rest : List ℕ → Tree Outcome) → ((fs : List Event) (found : List ℕ) → phase_of fs ≡ Idle → Sound limits IsOver fs (rest found)) → phase_of es ≡ Idle → Sound limits IsOver es (takes vector_words [] rest)
 polls-sound limits es rest h idle =
@@ -293,6 +373,7 @@ attempt-sound limits number state controllers (Load name gva) es low idle = by_a
 attempt-sound limits number state controllers (Store gva what) es low idle = by_access-sound limits number state controllers low (goal_of limits.pages state Write true gva.0 (operand state what)) refl es (passed state) idle
 attempt-sound limits number state controllers (Exec gva) es low idle = by_access-sound limits number state controllers low (goal_of limits.pages state Execute false gva.0 0) refl es (passed state) idle
 attempt-sound limits number state controllers (Spin gva value) es low idle = by_access-sound limits number state controllers low (goal_of limits.pages state Read true gva.0 0) refl es (spun state value) idle
+attempt-sound limits number state controllers Hypercall es low idle = hypercall-sound limits number state controllers low es idle
 attempt-sound limits number state controllers VtlCall es low idle =
     Sound-cond limits IsOver es (may_call state) (in_own_access (told_on (assist_page limits.pages state) by_call) _) (Ends _) (λ _. told-sound limits number state controllers low es (assist_page limits.pages state) by_call _ (assist-there limits.pages state) idle) idle
 attempt-sound limits number state controllers VtlReturn es low idle =
