@@ -10,12 +10,14 @@ use Rattle.vsm_core.specs.declared.mark.What.TheVariants as whats
 use Rattle.vsm_core.specs.declared.operation.Op.{Op}
 use Rattle.vsm_core.specs.declared.operation.Program.{Program}
 use Rattle.vsm_core.specs.Outcomes.{Outcome, faulted}
-use Rattle.vsm_core.specs.Processor.{Vp, operation_at, origin_of, saw, settled}
+use Rattle.vsm_core.specs.declared.request.Reply.{Reply}
+use Rattle.vsm_core.specs.Processor.{Vp, operation_at, origin_of, saw, settled, asking, answered}
 use Rattle.vsm_core.specs.Seat.{Seat, Makes}
 use Rattle.vsm_core.specs.Steps.{made, phase_of}
 use Rattle.vsm_core.specs.Tree.{Tree, Ends, Asks, Wants, Taking}
 use Rattle.cpu.specs.declared.cpu_turn.CpuTurn.{CpuTurn}
 use Rattle.cpu.specs.declared.cpu_turn.CpuTurn.TheVariants.{Moved, Idle, Attempt, Again, Ended}
+use Rattle.cpu.specs.declared.cpu_turn.CpuTurn.TheVariants as turns
 
 -- where a processor is in its access whose attempt's events are those seen from `first` on
 abbrev pub phase_at : List Event → ℕ → Phase
@@ -39,12 +41,19 @@ answer_at (Ends o) ended = after_mark o.what ended
 answer_at (Asks s k) ended = Moved
 answer_at (Wants q k) ended = Moved
 
--- a turn where this is left of the attempt of this operation: its end with no step, or its next step and no other
+-- a turn where this is left of the attempt of this operation: its end with no step, its next step and no other, or its
+-- request, which is handed out with no step
 abbrev pub TurnsBy : Tree Outcome → Option Op → Vp → Seat → Vp → Seat → CpuTurn → Type 0
 TurnsBy (Ends o) op old before new after turn = (after ≡ before) × (new ≡ settled (Ends o) old) × (turn ≡ after_mark o.what new.ended)
 TurnsBy (Asks s k) op old before new after turn =
     (x : ℕ) × Makes before s x after × (new ≡ settled (k x) (saw op old (made s x))) × (turn ≡ answer_at (k x) new.ended)
-TurnsBy (Wants q k) op old before new after turn = ⊥
+TurnsBy (Wants q k) op old before new after turn = (after ≡ before) × (new ≡ asking op old) × (turn ≡ turns.Wants q)
+
+-- a reply to the request of an attempt where this is left of it: the attempt comes to its end by the reply, with no step
+abbrev pub AcceptsBy : Tree Outcome → Reply → Vp → Vp → CpuTurn → Type 0
+AcceptsBy (Wants q k) reply old new turn =
+    (o : Outcome) × (k reply ≡ Ends o) × (new ≡ settled (Ends o) (answered old)) × (turn ≡ after_mark o.what new.ended)
+AcceptsBy _ reply old new turn = ⊥
 
 -- a processor that hasn't started, after it took this from its start word: nothing changes where it was 0, and a start
 -- can't be served yet, so that the processor ends as at an undefined operation

@@ -2,10 +2,10 @@
 ghost use Rattle.std.specs.Prelude.{◌≡◌};
 ghost use Rattle.cpu.specs.Turns.{after_mark};
 
-use vsm_core::{Ending, What};
+use vsm_core::{Ending, Request, What};
 
 /// What one turn of a processor came to. The turns are this project's own.
-#[derive(Clone, Copy, Debug, PartialEq, Eq)]
+#[derive(Debug, Drop)]
 pub enum CpuTurn {
     /// It made a step, and its attempt goes on.
     Moved,
@@ -15,6 +15,8 @@ pub enum CpuTurn {
     Attempt,
     /// It left the mark of a spin that found another value, which stands until its next turn.
     Again,
+    /// Its attempt asks this of the partition. It made no step, and goes on by the reply alone.
+    Wants(Request),
     /// It runs no more, for this reason.
     Ended(Ending),
 }
