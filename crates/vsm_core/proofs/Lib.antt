@@ -1,4 +1,5 @@
 pub mod Bounds
+pub mod Checks
 pub mod SameAnswers
 pub mod ServedBlocks
 pub mod Soundness
