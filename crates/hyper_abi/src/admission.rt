@@ -1,5 +1,5 @@
 // What refuses a call before its first step.
-ghost use Rattle.std.specs.Prelude.{◌≡◌, ◌+◌, ◌*◌, ◌/◌, ◌%◌, ◌<◌, None, Some, IfOk, MatchResult, true};
+ghost use Rattle.std.specs.Prelude.{◌≡◌, ◌+◌, ◌*◌, ◌/◌, ◌%◌, ◌<◌, ◌≤◌, None, Some, IfOk, MatchResult, true, false};
 ghost use Rattle.vsm_core.specs.Calls.{row_of, code_in, is_fast, first_failed};
 ghost use Rattle.vsm_core.specs.Hypercalls.{input_refusal, place_checks};
 ghost use Rattle.hyper_abi.specs.Told.{row_from, row_for};
@@ -19,7 +19,9 @@ pub struct Admission {
 /// What refuses an input in memory, if something does: it must begin at a multiple of 8, end in its page, and that page
 /// must be one of so many.
 fn place_refusal(pages: u32, form: CallForm, value: u64, address: u64) -> Option<HvStatus>
-    ensures { result ≡ first_failed (place_checks pages (row_from form) value address) }
+    ensures result { result ≡ first_failed (place_checks pages (row_from form) value address) }
+    ensures page { result ≡ None → address / 4096 < pages }
+    ensures header { result ≡ None → address % 4096 / 8 + form.header / 8 ≤ 512 }
 {
     let count = value / (1 << 32) % (1 << 12);
     let offset = address % 4096;
@@ -37,7 +39,8 @@ fn place_refusal(pages: u32, form: CallForm, value: u64, address: u64) -> Option
 }
 
 /// Judges a call before its first step, by its input value, the address of its input and the number of pages there are. The
-/// input of a fast call stands in registers, and its address isn't looked at.
+/// input of a fast call stands in registers, and its address isn't looked at. The header of any other input that isn't
+/// refused stands in a page that there is.
 ///
 /// # Errors
 /// In this order, which is this project's own: those of `Control::read`. Then, of a call that isn't fast,
@@ -48,6 +51,8 @@ pub fn admit(pages: u32, value: u64, address: u64) -> Result<Admission, HvStatus
     ensures admits { MatchResult result (λ a. input_refusal pages (row_of (code_in value)) value address ≡ None) (λ status. input_refusal pages (row_of (code_in value)) value address ≡ Some status) }
     ensures call { IfOk result (λ a. row_of (code_in value) ≡ Some (row_for a.call)) }
     ensures fast { IfOk result (λ a. a.fast ≡ is_fast value) }
+    ensures page { IfOk result (λ a. a.fast ≡ false → address / 4096 < pages) }
+    ensures header { IfOk result (λ a. a.fast ≡ false → address % 4096 / 8 + (row_for a.call).header / 8 ≤ 512) }
     ensures may_be_fast { IfOk result (λ a. a.fast ≡ true → (row_for a.call).may_be_fast ≡ true) }
 {
     let control = Control::read(value)?;

@@ -21,7 +21,7 @@ returns-in-Some-place_refusal-clause-admits c =
     let at : row_of (code_in c.args.value) ≡ Some row = search rules in
     let slow : is_fast c.args.value ≡ false = search rules in
     by_place c.args.pages c.args.value c.args.address row _ at c.in_ok-control.ensures.read slow
-    ∙ ap (λ (r : Row). first_failed (place_checks c.args.pages r c.args.value c.args.address)) (sym c.form.ensures) ∙ sym c.place_refusal.ensures ∙ c.in-Some-place_refusal.is
+    ∙ ap (λ (r : Row). first_failed (place_checks c.args.pages r c.args.value c.args.address)) (sym c.form.ensures) ∙ sym c.place_refusal.ensures.result ∙ c.in-Some-place_refusal.is
 
 pub returns-in-None-clause-admits : goal.returns-in-None-clause-admits
 returns-in-None-clause-admits c =
@@ -29,4 +29,4 @@ returns-in-None-clause-admits c =
     let at : row_of (code_in c.args.value) ≡ Some row = search rules in
     let slow : is_fast c.args.value ≡ false = search rules in
     by_place c.args.pages c.args.value c.args.address row _ at c.in_ok-control.ensures.read slow
-    ∙ ap (λ (r : Row). first_failed (place_checks c.args.pages r c.args.value c.args.address)) (sym c.form.ensures) ∙ sym c.place_refusal.ensures ∙ c.in-None.is
+    ∙ ap (λ (r : Row). first_failed (place_checks c.args.pages r c.args.value c.args.address)) (sym c.form.ensures) ∙ sym c.place_refusal.ensures.result ∙ c.in-None.is
