@@ -7,6 +7,7 @@ ghost use Rattle.vsm_core.specs.Hypercalls.{call_of, own_context as own_context_
 ghost use Rattle.vsm_core.specs.Outcomes.{Origin};
 ghost use Rattle.vsm_core.specs.State.{word_of as word_of_lem};
 ghost use Rattle.vsm_core.specs.declared.event.Phase.TheVariants.{Idle};
+ghost use Rattle.vsm_core.specs.declared.operation.Op.TheVariants.{Hypercall};
 ghost use Rattle.vtl_state.specs.States.{state_of};
 ghost use Rattle.hyper_abi.specs.Told.{row_for};
 ghost use Rattle.cpu.specs.Held.{origin_with};
@@ -35,7 +36,8 @@ fn fast_asked(call: Call, first: u64, second: u64) -> Asked
 
 /// The first stage of a call that isn't refused at once.
 fn admitted(bank: &Bank, levels: &Levels, address: u64, admission: Admission) -> Stage
-    requires { admission.fast ≡ false → address / 4096 < 2 ^ 32 }
+    requires page { admission.fast ≡ false → address / 4096 < 2 ^ 32 }
+    requires may_be_fast { admission.fast ≡ true → (row_for admission.call).may_be_fast ≡ true }
     ensures fast { admission.fast ≡ true → WantsCall result (row_for admission.call).code (address ∷ word_of_lem (state_of bank.now levels.now) Name.R8 ∷ []) }
     ensures memory { admission.fast ≡ false → result ≡ Stage.Input (opening_input admission.call levels.now.active address) }
 {
@@ -61,7 +63,7 @@ fn admitted(bank: &Bank, levels: &Levels, address: u64, admission: Admission) ->
 
 /// The first stage of a hypercall: it is made at privilege level 0, and what refuses it at once refuses it here.
 pub fn hypercalling(pages: u32, bank: &Bank, levels: &Levels) -> Stage
-    ensures rest { (number : ℕ) (held : Contents) → StageRest (origin_with pages number bank.now levels.now held) Op.Hypercall result (hypercall_tree (origin_with pages number bank.now levels.now held)) }
+    ensures rest { (number : ℕ) (held : Contents) → StageRest (origin_with pages number bank.now levels.now held) Hypercall result (hypercall_tree (origin_with pages number bank.now levels.now held)) }
     ensures is { (number : ℕ) → StageIs pages number result }
     ensures idle { StageAt result Idle }
     ensures no_poll { ¬ IsTaking result }
