@@ -18,9 +18,9 @@ returns-then-not-is_going-clause-turned g c =
     let v = view_of i in
     let u = c.begun-under.result in
     let means = c.begun-under.ensures.means i.log.seen.0 i.log.part i.log.first c.self.invariant.means in
-    let ends = going-ends (origin_at i.limits.pages i.vp.0 i.bank i.levels i.controllers) u.op u.stage _ (sym c.is_going.ensures ∙ c.if-not-is_going.true) means.rest in
+    let ends = going-ends (origin_at i.limits.pages i.vp.0 i.bank i.levels i.controllers) u.op u.stage _ (sym c.is_going.ensures ∙ c.if-not-is_going.true) c.in_default.not-Want means.rest in
     let own : operation_at c.args.program.now v.state ≡ Some u.op = rw (← c.operations-ops.ensures) c.begun-under.ensures.op in
-    let v1 : Vp = view_of (record { vp = i.vp; limits = i.limits; zero_length = i.zero_length; one_length = i.one_length; started = i.started; bank = i.bank; levels = i.levels; controllers = i.controllers; under = Some u; log = c.stand.new.self }) in
+    let v1 : Vp = view_of (record { vp = i.vp; limits = i.limits; zero_length = i.zero_length; one_length = i.one_length; started = i.started; bank = i.bank; levels = i.levels; controllers = i.controllers; under = Some u; owes = i.owes; log = c.stand.new.self }) in
     rw (← c.self.view_is, own) (local-by v v1 c.settle.new.self u.op ends.0 (g.P.Port.seat c.args.port.now) c.settle.result ends.1 (rw c.stand.ensures refl)
     (λ grant. again-kept (origin_at i.limits.pages i.vp.0 i.bank i.levels i.controllers) i.under u i.log.seen.0 i.log.part i.log.first ends.0 grant c.self.invariant.means c.begun-under.ensures.kept ends.1)
     c.settle.ensures.new c.settle.ensures.turn)
@@ -59,6 +59,7 @@ invariant_of-self-2 g c =
       room = w.room;
       running = w.running;
       spins = w.spins;
+      owing = λ e. let answered : i.owes ≡ false = rw (← c.self.view_is) at c.requires.answered in let no : true ≡ false = sym e ∙ answered in cc;
       waits = λ e. let no : true ≡ false = sym started ∙ e in cc;
       fresh = λ e. refl;
       means = led-under (origin_at i.limits.pages i.vp.0 i.bank i.levels i.controllers) u.op c.step-step.result.stage c.judged-stage.result _ _ _ st.led (record {
@@ -84,7 +85,7 @@ returns-clause-turned g c =
     let v = view_of i in
     let u = c.begun-under.result in
     let own : operation_at c.args.program.now v.state ≡ Some u.op = rw (← c.operations-ops.ensures) c.begun-under.ensures.op in
-    let v1 : Vp = view_of (record { vp = i.vp; limits = i.limits; zero_length = i.zero_length; one_length = i.one_length; started = i.started; bank = i.bank; levels = i.levels; controllers = i.controllers; under = Some (record { op = u.op; stage = c.judged-stage.result }); log = c.see.new.self }) in
+    let v1 : Vp = view_of (record { vp = i.vp; limits = i.limits; zero_length = i.zero_length; one_length = i.one_length; started = i.started; bank = i.bank; levels = i.levels; controllers = i.controllers; under = Some (record { op = u.op; stage = c.judged-stage.result }); owes = i.owes; log = c.see.new.self }) in
     rw (← c.self.view_is, own) (turned-by v v1 c.settle-2.new.self u.op (g.P.Port.seat c.args.port.now) (g.P.Port.seat c.step-step.new.port) c.step-step.result c.settle-2.result (way g c) (rw (c.see.ensures, c.stand.ensures) refl) c.settle-2.ensures.new c.settle-2.ensures.turn)
 
 pub returns-clause-serves : goal.returns-clause-serves
