@@ -10,8 +10,8 @@ use Rattle.vsm_core.specs.declared.journal.Entry.TheVariants as entries
 use Rattle.vsm_core.specs.declared.request.Reply.{Reply}
 use Rattle.protection_map.specs.JournalView.{with_entry}
 use Rattle.partition.specs.PartView.{Doing, PartView}
-use Rattle.partition.specs.declared.part_turn.PartTurn.{PartTurn}
-use Rattle.partition.specs.declared.part_turn.PartTurn.TheVariants.{Moved, Busy, Done}
+use Rattle.partition.specs.declared.turn.PartTurn.{PartTurn}
+use Rattle.partition.specs.declared.turn.PartTurn.TheVariants.{Moved, Busy, Done}
 
 -- the step on the shared words with which an entry is added
 abbrev pub step_of : Entry → Option Event

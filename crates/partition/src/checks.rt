@@ -8,8 +8,10 @@ use register_file::Context;
 use vsm_base::{HvStatus, VpIndex, Vtl};
 use vsm_core::{PartitionState, Standing};
 
+/// The number by which a caller names its own partition.
 const OWN_PARTITION: u64 = u64::MAX;
 
+/// The index by which a caller names its own processor.
 const OWN_INDEX: u32 = 0xFFFF_FFFE;
 
 const NOBODY: Standing = Standing {
@@ -18,7 +20,7 @@ const NOBODY: Standing = Standing {
     waiting: None,
 };
 
-/// What is known of a processor, and of one that there isn't.
+/// What the partition knows of a processor, and nothing of one that there isn't.
 pub fn standing(state: &PartitionState, vp: u32) -> Standing
     ensures { result ≡ standing state.now vp }
 {
@@ -35,7 +37,23 @@ fn is_other_partition(words: &[u64]) -> bool
     words[0] != OWN_PARTITION
 }
 
-/// The low 32 bits of the second word.
+/// Bits 7:0 of the second word.
+fn low_target(words: &[u64]) -> u64
+    requires { 1 < length words.now }
+    ensures { result ≡ low_target words.now }
+{
+    words[1] % (1 << 8)
+}
+
+/// Bits 63:8 of the second word.
+fn above_low_target(words: &[u64]) -> u64
+    requires { 1 < length words.now }
+    ensures { result ≡ above_low_target words.now }
+{
+    words[1] / (1 << 8)
+}
+
+/// Bits 31:0 of the second word.
 pub fn index_of(words: &[u64]) -> u32
     requires { 1 < length words.now }
     ensures { result ≡ index_of words.now }
@@ -43,6 +61,7 @@ pub fn index_of(words: &[u64]) -> u32
     (words[1] % (1 << 32)) as u32
 }
 
+/// Bits 39:32 of the second word.
 fn target_of(words: &[u64]) -> u64
     requires { 1 < length words.now }
     ensures { result ≡ target_of words.now }
@@ -50,6 +69,7 @@ fn target_of(words: &[u64]) -> u64
     words[1] / (1 << 32) % (1 << 8)
 }
 
+/// Bits 63:40 of the second word.
 fn padding_of(words: &[u64]) -> u64
     requires { 1 < length words.now }
     ensures { result ≡ padding_of words.now }
@@ -57,7 +77,7 @@ fn padding_of(words: &[u64]) -> u64
     words[1] / (1 << 40)
 }
 
-/// The processor that an index names.
+/// The number of the processor that an index names, where there is such a processor.
 pub fn named(by: VpIndex, index: u32) -> u32
     ensures { result ≡ named by.0 index }
 {
@@ -89,14 +109,14 @@ fn is_legal_context(words: &[u64; 28]) -> bool
     Context::read(words).is_ok()
 }
 
-/// Why the call for the partition is refused.
+/// Why the call that enables level 1 for the partition is refused, if it is.
 pub fn enable_partition_refusal(state: &PartitionState, words: &[u64; 2]) -> Option<HvStatus>
     ensures { result ≡ first_failed (enable_partition_checks state.now words.now) }
 {
     if is_other_partition(words) {
         return Some(HvStatus::INVALID_PARTITION_ID);
     }
-    if words[1] % (1 << 8) != 1 || words[1] / (1 << 8) != 0 {
+    if low_target(words) != 1 || above_low_target(words) != 0 {
         return Some(HvStatus::INVALID_PARAMETER);
     }
     if state.enabled {
@@ -105,7 +125,7 @@ pub fn enable_partition_refusal(state: &PartitionState, words: &[u64; 2]) -> Opt
     None
 }
 
-/// Why the call for a processor is refused.
+/// Why the call that enables level 1 on a processor is refused, if it is.
 pub fn enable_vp_refusal(
     state: &PartitionState,
     by: VpIndex,

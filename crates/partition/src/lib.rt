@@ -2,9 +2,12 @@
 #![tactic(auto)]
 
 mod checks;
-mod part_turn;
-mod partition;
 mod plans;
+mod serving;
+mod turn;
 
-pub use part_turn::PartTurn;
-pub use partition::Partition;
+pub use serving::Partition;
+pub use turn::PartTurn;
+
+#[cfg(test)]
+mod tests;

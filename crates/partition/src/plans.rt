@@ -1,6 +1,8 @@
 // What each request comes to.
 ghost use Rattle.std.specs.Prelude.{◌≡◌, ◌<◌, ◌≤◌, [], ◌∷◌, None, length};
-ghost use Rattle.vsm_core.specs.Served.{serve, serve_call, refused};
+ghost use Rattle.vsm_core.specs.Calls.{first_failed};
+ghost use Rattle.vsm_core.specs.Partition.{enable_partition_checks};
+ghost use Rattle.vsm_core.specs.Served.{serve, serve_call, judged, enable_partition};
 ghost use Rattle.partition.specs.Plans.{Plans};
 
 use crate::checks::{
@@ -9,8 +11,8 @@ use crate::checks::{
 use vsm_base::{HvStatus, VpIndex, Vtl};
 use vsm_core::{Entry, PartCall, PartitionState, Reply, Request};
 
-/// A request that is under way: the one entry that it adds, and its reply.
-#[derive(Clone, Copy, Debug, PartialEq, Eq)]
+/// A request that is under way: the one entry that it adds, by no step on the shared words, and its reply.
+#[derive(Clone, Copy, Debug)]
 pub struct Under {
     pub entry: Entry,
     pub reply: Reply,
@@ -37,7 +39,7 @@ fn refused(by: VpIndex, status: HvStatus) -> Under
 }
 
 fn enable_partition(state: &mut PartitionState, by: VpIndex, words: &[u64; 2]) -> Under
-    ensures { (level : Vtl) → Plans state.old state.new result (serve_call state.old by level (PartCall.EnablePartition words.now)) }
+    ensures { Plans state.old state.new result (judged state.old by (first_failed (enable_partition_checks state.old words.now)) (enable_partition state.old by)) }
 {
     if let Some(status) = enable_partition_refusal(state, words) {
         return refused(by, status);
