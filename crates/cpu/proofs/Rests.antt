@@ -1,5 +1,5 @@
 -- What is left of an attempt at its stages.
-use Rattle.std.proofs.Common.{◌≡◌, ◌≢◌, ◌∙◌, ◌<◌, ℕ, ◌==◌, ◌&&◌, Bool, true, false, cond, Option, Some, None, List, [], ◌∷◌, refl, sym, ap, zero, suc, ◌+◌, ◌-◌, ◌/◌, ◌%◌, take}
+use Rattle.std.proofs.Common.{◌≡◌, ◌≢◌, ◌∙◌, ◌<◌, ℕ, ◌==◌, ◌&&◌, Bool, true, false, cond, Option, Some, None, List, [], ◌∷◌, refl, sym, ap, subst, zero, suc, ◌+◌, ◌-◌, ◌/◌, ◌%◌, take}
 use Rattle.vsm_base.specs.declared.places.Access.{Access}
 use Rattle.vsm_base.specs.declared.places.Access.TheVariants.{Read, Write, Execute}
 use Rattle.vsm_core.specs.declared.mark.Grant.{Grant}
@@ -302,6 +302,11 @@ result-stays from op (decisions.Eom slot) grant e = eom-outcome-stays from slot 
 came-marked : (what : What) (v : Vp) (o : Outcome) → ((grant : Grant) → what ≢ Again grant) → came_to what v o ≡ marked v o
 came-marked (Again grant) v o h = absurd (h grant refl)
 came-marked _ v o h = refl
+
+pub settled-again : (v : Vp) (tree : Tree Outcome) (from : Origin) (op : Op) (decided : Decided) (grant : Grant) → EndsAs tree (result_of from op decided) → again_of op decided ≡ Some grant → came_to (Again grant) v (outcome_at from (Again grant) from.state []) ≡ settled tree v
+settled-again v tree from op decided grant ends some =
+    let o : Outcome = outcome_at from (Again grant) from.state [] in
+    rw ends.1 (subst (λ (r : Outcome). came_to (Again grant) v o ≡ came_to r.what v (with_does ends.0 r)) (sym (result-again from op decided grant some)) refl)
 
 pub settled-marked : (v : Vp) (tree : Tree Outcome) (from : Origin) (op : Op) (decided : Decided) → EndsAs tree (result_of from op decided) → again_of op decided ≡ None → marked v (result_of from op decided) ≡ settled tree v
 settled-marked v tree from op decided ends none =

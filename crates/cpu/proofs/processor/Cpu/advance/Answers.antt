@@ -1,4 +1,5 @@
 use Rattle.std.proofs.Common.{arith, ◌≡◌, Some, None, true, false, refl, sym, ap, ◌∙◌}
+use Rattle.vsm_core.specs.Outcomes.{Origin}
 use Rattle.vsm_core.specs.Processor.{Vp, operation_at}
 use Rattle.vsm_core.specs.Seat.{Seat}
 use Rattle.vtl_state.specs.States.{state_of}
@@ -8,7 +9,7 @@ use Rattle.cpu.specs.Turns.{phase_at}
 use Rattle.cpu.proofs.Rests.{going-ends}
 use Rattle.cpu.proofs.Seen.{first-by-le, first-by-few, part-by-le}
 use Rattle.cpu.specs.Held.{origin_at}
-use Rattle.cpu.proofs.Turning.{Stepped, again-kept, led-under, local-by, stepped, turned-by}
+use Rattle.cpu.proofs.Turning.{Stepped, again-kept, led-under, local-by, stepped, turned-by, wanted-by}
 use Rattle.cpu.proofs.processor.Cpu.advance.Given.{Over}
 use Rattle.cpu.proofs.processor.Cpu.advance.Goals as goal
 
@@ -103,3 +104,14 @@ returns-clause-serves g c =
 
 pub returns-clause-name : goal.returns-clause-name
 returns-clause-name g c = let st = way g c in ap (λ (z : Seat). z.name) st.makes.after
+
+pub returns-in-Want-clause-turned : goal.returns-in-Want-clause-turned
+returns-in-Want-clause-turned g c =
+    let i = c.self.inside in
+    let v = view_of i in
+    let u = c.begun-under.result in
+    let from : Origin = origin_at i.limits.pages i.vp.0 i.bank i.levels i.controllers in
+    let means = c.begun-under.ensures.means i.log.seen.0 i.log.part i.log.first c.self.invariant.means in
+    let rest = rw c.in-Want.is at means.rest in
+    let own : operation_at c.args.program.now v.state ≡ Some u.op = rw (← c.operations-ops.ensures) c.begun-under.ensures.op in
+    rw (← c.self.view_is, own) (wanted-by v _ u.op from c.in-Want.asked (g.P.Port.seat c.args.port.now) c.request.result rest (rw c.stand.ensures refl) (c.request.ensures from refl refl))

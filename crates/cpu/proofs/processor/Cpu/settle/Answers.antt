@@ -7,7 +7,7 @@ use Rattle.vsm_core.specs.Outcomes.{Outcome}
 use Rattle.cpu.specs.Held.{origin_at}
 use Rattle.cpu.proofs.Turning.{again-few}
 use Rattle.cpu.proofs.Lists.{none-new}
-use Rattle.cpu.proofs.Rests.{IsOpen, stage-open, settled-stays, answer-moves, again-asks, again-spins, result-again, settled-marked}
+use Rattle.cpu.proofs.Rests.{IsOpen, stage-open, settled-stays, answer-moves, again-asks, again-spins, result-again, settled-again, settled-marked}
 use Rattle.cpu.proofs.processor.Cpu.settle.Goals as goal
 
 pub returns-in_default-stage : goal.returns-in_default-stage
@@ -53,3 +53,11 @@ mark_again-requires-clause-spins c = (again-spins c.in-Some.under.op c.in-End.de
 
 pub mark_again-requires-clause-no_call : goal.mark_again-requires-clause-no_call
 mark_again-requires-clause-no_call c = (again-spins c.in-Some.under.op c.in-End.decided c.in-Some-again.grant (sym c.again.ensures ∙ c.in-Some-again.is)).1
+
+pub returns-in-Some-again-clause-new : goal.returns-in-Some-again-clause-new
+returns-in-Some-again-clause-new c =
+    let i = c.self.inside in
+    let u = c.in-Some.under in
+    let m = rw c.in-Some.is at c.self.invariant.means in
+    let ends = rw c.in-End.is at m.rest in
+    rw (c.mark_again.ensures.new, ← c.self.view_is, c.in-Some.is) (settled-again _ _ (origin_at i.limits.pages i.vp.0 i.bank i.levels i.controllers) u.op c.in-End.decided c.in-Some-again.grant ends (sym c.again.ensures ∙ c.in-Some-again.is))
