@@ -26,7 +26,13 @@ pub use processor::Cpu;
 #[cfg(test)]
 mod fed;
 #[cfg(test)]
+mod left;
+#[cfg(test)]
 mod message_tests;
+#[cfg(test)]
+mod poll_tests;
+#[cfg(test)]
+mod runs;
 #[cfg(test)]
 mod switch_tests;
 #[cfg(test)]

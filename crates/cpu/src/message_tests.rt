@@ -1,15 +1,13 @@
 use super::*;
-use crate::switch_tests::{PAGE_1, Put, machine, mark, programs};
-use crate::tests::{attempts, fed, plain, whats, word};
-use fabric::Port;
-use std::alloc::Global;
+use crate::left::Left;
+use crate::runs::{Opening, PAGE_1, Put, Run, Way, leaves, mark};
 use std::test::Fail;
 use vsm_base::{Access, Gva, Mask, Name, Page, VpIndex, Vtl};
 use vsm_core::{Denial, EomWord, Event, Op, Operand, PendingWord, Posted, What};
 
 /// Level 1's synthetic interrupt controller is on, its message page is page 0, and Sint0 has a vector. Level 1's assist
 /// page is page 1. Level 0 stands at its second operation.
-const OPENING: [Put; 7] = [
+pub const OPENING: [Put; 7] = [
     PAGE_1,
     (Vtl::One, Name::Scontrol, 1),
     (Vtl::One, Name::Simp, 1),
@@ -32,30 +30,25 @@ const STORES: [Op; 3] = [Op::Eom, STORE, Op::Eom];
 const TAKEN: u64 = 0x8000_0001;
 
 /// A generation.
-const ROUND: u64 = 5;
+pub const ROUND: u64 = 5;
 
-/// Level 0 polls at its second operation.
-const POLLS: [Op; 3] = [Op::Eoi, Op::Poll, Op::Eoi];
-
-/// Vector 0x40 is requested for level 1.
-const FOR_ONE: [u64; 9] = [0, 0, 0, 0, 0, 1, 0, 0, ROUND];
-
-/// The processor after so many attempts, where it begins with level 0 and its port answers so.
-fn after(
-    alloc: Global,
-    zero: &[Op],
-    one: &[Op],
-    puts: &[Put],
-    answers: &[u64],
-    count: usize,
-) -> Result<Cpu, Fail> {
-    let program = programs(alloc, zero, one)?;
-    let mut all = Vec::from_slice(alloc, OPENING.as_slice())?;
-    all.extend_from_slice(puts)?;
-    let mut cpu = machine(alloc, &program, Vtl::Zero, all.as_slice())?;
-    let mut port = fed(alloc, answers)?;
-    attempts(&mut cpu, &mut port, &program, count);
-    Ok(cpu)
+/// So many attempts of a processor that begins with level 0 and whose port answers so. These registers are put behind
+/// those of the opening.
+pub fn after<'a>(
+    zero: &'a [Op],
+    one: &'a [Op],
+    puts: &'a [Put],
+    answers: &'a [u64],
+    attempts: usize,
+) -> Run<'a> {
+    Run {
+        zero,
+        one,
+        opening: Opening::Both(Vtl::Zero, &OPENING, puts),
+        way: Way::Fed(answers),
+        attempts,
+        turns: 0,
+    }
 }
 
 /// A page that may be read alone.
@@ -92,7 +85,7 @@ fn looked(value: u64) -> Event {
 }
 
 /// The assist page is told that an interrupt or an intercept entered level 1.
-fn told() -> Event {
+pub fn told() -> Event {
     Event::Write {
         page: Page(1),
         index: 1,
@@ -112,7 +105,7 @@ fn rung() -> Event {
     }
 }
 
-fn checked() -> Event {
+pub fn checked() -> Event {
     Event::Check { generation: ROUND }
 }
 
@@ -123,40 +116,8 @@ fn masked() -> Event {
     }
 }
 
-/// The events of a mark, by its place.
-fn events_of(cpu: &Cpu, place: usize) -> Option<&[Event]> {
-    let mark = cpu.marks().get(place)?;
-    let first = mark.first as usize;
-    cpu.seen().get(first..first + mark.count as usize)
-}
-
-/// An event of a mark, by their places.
-fn event_of(cpu: &Cpu, place: usize, index: usize) -> Option<Event> {
-    events_of(cpu, place)?.get(index).copied()
-}
-
-/// How many events a mark has, by its place.
-fn count_of(cpu: &Cpu, place: usize) -> Option<usize> {
-    Some(events_of(cpu, place)?.len())
-}
-
-/// What an end of message came to.
-fn ended(word: EomWord) -> Option<What> {
-    Some(What::Eom(word))
-}
-
-/// A poll has taken this from the words of this level, one after the other.
-fn taken(level: Vtl, part: u8, bits: u64) -> Event {
-    Event::Take {
-        word: PendingWord::Vectors { level, part },
-        bits,
-    }
-}
-
 #[test]
 fn level_one_is_told_of_a_denied_store(rt: HostRuntime) -> Result<(), Fail> {
-    let alloc = rt.alloc();
-    let cpu = after(alloc, &STORES, &[Op::Eom; 2], &[], &[ROUND, 1, 0], 2)?;
     let events = [
         Event::Enter,
         checked(),
@@ -178,22 +139,39 @@ fn level_one_is_told_of_a_denied_store(rt: HostRuntime) -> Result<(), Fail> {
         told(),
         Event::Leave,
     ];
-    assert_eq!(rt; cpu.seen(), events.as_slice());
-    let left = mark(Vtl::Zero, 1, denied(Posted::Slot), 19);
-    assert_eq!(rt; cpu.marks().first().copied(), Some(left));
-    // No note waits.
-    let ends = whats(alloc, cpu.marks())?;
-    assert_eq!(rt; ends.get(1).copied(), ended(EomWord::Nothing));
-    assert_eq!(rt; cpu.levels().active(), Vtl::One);
-    assert_eq!(rt; cpu.bank().get(Vtl::Zero, Name::Rip), 1);
-    assert_eq!(rt; cpu.ended(), None);
-    Ok(())
+    let left = [
+        Left::Seen(&events),
+        Left::Mark(0, mark(Vtl::Zero, 1, denied(Posted::Slot), 19)),
+        // No note waits.
+        Left::What(1, What::Eom(EomWord::Nothing)),
+        Left::Active(Vtl::One),
+        Left::Register(Vtl::Zero, Name::Rip, 1),
+        Left::Ended(None),
+    ];
+    let run = after(&STORES, &[Op::Eom; 2], &[], &[ROUND, 1, 0], 2);
+    leaves(rt.alloc(), &run, &left)
+}
+
+#[test]
+fn a_walk_that_is_denied_at_its_end_has_27_events(rt: HostRuntime) -> Result<(), Fail> {
+    let zero = [Op::Eoi, Op::Exec(Gva(0x328)), Op::Eoi];
+    let puts = [(Vtl::Zero, Name::Cr0, 0x8000_0001)];
+    let answers = [ROUND, 15, 0x1007, 15, 0x1007, 15, 0x1007, 15, 0x1007, 1, 0];
+    let left = [
+        Left::Count(1),
+        Left::Many(0, 27),
+        Left::Event(0, 11, looked(0)),
+        Left::Event(0, 14, slot(2, 0x0000_0200_0000_0000)),
+        // The address of the operation, and the guest physical address that was denied.
+        Left::Event(0, 20, slot(8, 0x328)),
+        Left::Event(0, 21, slot(9, 0x1328)),
+        Left::Active(Vtl::One),
+    ];
+    leaves(rt.alloc(), &after(&zero, &[Op::Eom], &puts, &answers, 1), &left)
 }
 
 #[test]
 fn a_note_waits_where_the_slot_is_taken(rt: HostRuntime) -> Result<(), Fail> {
-    let alloc = rt.alloc();
-    let cpu = after(alloc, &STORES, &[Op::Eom], &[], &[ROUND, 1, TAKEN], 1)?;
     let events = [
         Event::Enter,
         checked(),
@@ -203,40 +181,221 @@ fn a_note_waits_where_the_slot_is_taken(rt: HostRuntime) -> Result<(), Fail> {
         told(),
         Event::Leave,
     ];
-    assert_eq!(rt; cpu.seen(), events.as_slice());
-    let left = mark(Vtl::Zero, 1, denied(Posted::Waiting), 7);
-    assert_eq!(rt; cpu.marks(), [left].as_slice());
-    assert_eq!(rt; cpu.levels().active(), Vtl::One);
+    let left = [
+        Left::Seen(&events),
+        Left::Marks(&[mark(Vtl::Zero, 1, denied(Posted::Waiting), 7)]),
+        Left::Active(Vtl::One),
+    ];
+    let run = after(&STORES, &[Op::Eom], &[], &[ROUND, 1, TAKEN], 1);
+    leaves(rt.alloc(), &run, &left)
+}
+
+#[test]
+fn a_note_waits_behind_an_older_one(rt: HostRuntime) -> Result<(), Fail> {
+    // The first note waits since the page is off. Then level 1 turns it on and returns.
+    let ops = [
+        Op::Set(Name::Scontrol, 1),
+        Op::Set(Name::Simp, 1),
+        Op::VtlReturn,
+        Op::Eom,
+    ];
+    let puts = [
+        (Vtl::One, Name::Scontrol, 0),
+        (Vtl::One, Name::Simp, 0),
+        (Vtl::Zero, Name::Rcx, 1),
+    ];
+    let plain = What::Plain;
+    let waits = denied(Posted::Waiting);
+    let off = [Event::Enter, checked(), masked(), told(), Event::Leave];
+    let on = [
+        Event::Enter,
+        checked(),
+        masked(),
+        looked(0),
+        told(),
+        Event::Leave,
+    ];
+    let left = [
+        Left::Whats(&[waits, plain, plain, plain, waits]),
+        Left::Events(0, &off),
+        Left::Events(4, &on),
+        Left::Active(Vtl::One),
+    ];
+    let run = after(&STORES, &ops, &puts, &[ROUND, 1, ROUND, 1, 0], 5);
+    leaves(rt.alloc(), &run, &left)
+}
+
+#[test]
+fn a_note_waits_where_the_page_is_off(rt: HostRuntime) -> Result<(), Fail> {
+    let left = [
+        Left::Seen(&[Event::Enter, checked(), masked(), told(), Event::Leave]),
+        Left::Whats(&[denied(Posted::Waiting), What::Eom(EomWord::Waiting)]),
+    ];
+    for put in [
+        (Vtl::One, Name::Scontrol, 0),
+        (Vtl::One, Name::Simp, 0),
+        (Vtl::One, Name::Simp, 0x2001),
+    ] {
+        let puts = [put];
+        let run = after(&STORES, &[Op::Eom], &puts, &[ROUND, 1], 2);
+        leaves(rt.alloc(), &run, &left)?;
+    }
     Ok(())
 }
 
 #[test]
-fn a_poll_enters_level_one_for_its_vector(rt: HostRuntime) -> Result<(), Fail> {
-    let alloc = rt.alloc();
-    let one = [Op::Ack(Name::Rbx), Op::Ack(Name::Rdx), Op::Eoi];
-    let puts = [(Vtl::One, Name::Rdx, 7)];
-    let cpu = after(alloc, &POLLS, &one, &puts, &FOR_ONE, 3)?;
+fn no_vector_is_requested_where_sint0_has_none(rt: HostRuntime) -> Result<(), Fail> {
+    let left = [
+        Left::Marks(&[mark(Vtl::Zero, 1, denied(Posted::Slot), 18)]),
+        Left::Event(0, 15, slot(11, 0)),
+        Left::Event(0, 16, told()),
+    ];
+    for sint in [0x1_0031, 0x0F] {
+        let puts = [(Vtl::One, Name::Sint0, sint)];
+        let run = after(&STORES, &[Op::Eom], &puts, &[ROUND, 1, 0], 1);
+        leaves(rt.alloc(), &run, &left)?;
+    }
+    Ok(())
+}
+
+#[test]
+fn nothing_is_told_where_both_pages_are_off(rt: HostRuntime) -> Result<(), Fail> {
+    let puts = [
+        (Vtl::One, Name::VpAssistPage, 0),
+        (Vtl::One, Name::Scontrol, 0),
+    ];
+    let left = [
+        Left::Seen(&[Event::Enter, checked(), masked(), Event::Leave]),
+        Left::Marks(&[mark(Vtl::Zero, 1, denied(Posted::Waiting), 4)]),
+        Left::Active(Vtl::One),
+    ];
+    let run = after(&STORES, &[Op::Eom], &puts, &[ROUND, 1], 1);
+    leaves(rt.alloc(), &run, &left)
+}
+
+#[test]
+fn an_end_of_message_sends_the_note_that_waits(rt: HostRuntime) -> Result<(), Fail> {
     let events = [
-        taken(Vtl::Zero, 0, 0),
-        taken(Vtl::Zero, 1, 0),
-        taken(Vtl::Zero, 2, 0),
-        taken(Vtl::Zero, 3, 0),
-        taken(Vtl::One, 0, 0),
-        taken(Vtl::One, 1, 1),
-        taken(Vtl::One, 2, 0),
-        taken(Vtl::One, 3, 0),
         Event::Enter,
         checked(),
-        told(),
+        looked(0),
+        slot(0, 0x0000_0050_8000_0001),
+        slot(1, 0),
+        slot(2, 0x0000_0100_0000_0000),
+        slot(3, 0x1000),
+        slot(4, 0x209B_0010_FFFF_FFFF),
+        slot(5, 1),
+        slot(6, 0x246),
+        slot(7, 0x0000_0100_0000_0000),
+        slot(8, 0x328),
+        slot(9, 0x328),
+        slot(10, 0),
+        slot(11, 0),
+        rung(),
         Event::Leave,
     ];
-    assert_eq!(rt; cpu.seen(), events.as_slice());
-    let wanted = [What::Entered, What::Value(0x40), What::Value(0)];
-    assert_eq!(rt; whats(alloc, cpu.marks())?.as_slice(), wanted.as_slice());
-    assert_eq!(rt; cpu.levels().active(), Vtl::One);
-    let bank = cpu.bank();
-    assert_eq!(rt; bank.get(Vtl::Zero, Name::Rip), 2);
-    assert_eq!(rt; bank.get(Vtl::One, Name::Rbx), 0x40);
-    assert_eq!(rt; bank.get(Vtl::One, Name::Rdx), 0);
-    Ok(())
+    let whats = [
+        denied(Posted::Waiting),
+        What::Eom(EomWord::Slot),
+        What::Eom(EomWord::Nothing),
+    ];
+    let left = [
+        Left::Whats(&whats),
+        Left::Events(1, &events),
+        Left::Many(2, 0),
+        Left::Register(Vtl::One, Name::Rip, 2),
+    ];
+    let run = after(&STORES, &[Op::Eom; 3], &[], &[ROUND, 1, TAKEN, ROUND, 0], 3);
+    leaves(rt.alloc(), &run, &left)
+}
+
+#[test]
+fn the_oldest_note_is_sent_first_and_says_that_more_wait(rt: HostRuntime) -> Result<(), Fail> {
+    let other = Op::Store(Gva(0x330), Operand::Number(7));
+    let zero = [Op::Eom, STORE, other];
+    let one = [Op::VtlReturn, Op::Eom, Op::Eom, Op::Eom, Op::Eom];
+    let puts = [(Vtl::Zero, Name::Rcx, 1)];
+    // The first store is denied once, and then granted.
+    let answers = [
+        ROUND, 1, TAKEN, ROUND, 15, ROUND, 1, TAKEN, ROUND, 0, ROUND, 0,
+    ];
+    let left = [
+        Left::What(0, denied(Posted::Waiting)),
+        Left::What(3, denied(Posted::Waiting)),
+        Left::What(4, What::Eom(EomWord::Slot)),
+        Left::What(5, What::Eom(EomWord::Slot)),
+        Left::What(6, What::Eom(EomWord::Nothing)),
+        Left::Event(4, 3, slot(0, 0x0000_0150_8000_0001)),
+        Left::Event(4, 8, slot(5, 1)),
+        Left::Event(4, 11, slot(8, 0x328)),
+        Left::Event(5, 3, slot(0, 0x0000_0050_8000_0001)),
+        Left::Event(5, 8, slot(5, 2)),
+        Left::Event(5, 11, slot(8, 0x330)),
+    ];
+    leaves(rt.alloc(), &after(&zero, &one, &puts, &answers, 7), &left)
+}
+
+#[test]
+fn an_end_of_message_waits_where_the_slot_is_taken(rt: HostRuntime) -> Result<(), Fail> {
+    let answers = [ROUND, 1, TAKEN, ROUND, TAKEN, ROUND, 0];
+    let whats = [
+        denied(Posted::Waiting),
+        What::Eom(EomWord::Waiting),
+        What::Eom(EomWord::Slot),
+    ];
+    let events = [
+        Event::Enter,
+        checked(),
+        looked(TAKEN),
+        slot(0, 0x0100_8000_0001),
+        Event::Leave,
+    ];
+    let left = [Left::Whats(&whats), Left::Events(1, &events)];
+    let run = after(&STORES, &[Op::Eom; 3], &[], &answers, 3);
+    leaves(rt.alloc(), &run, &left)
+}
+
+#[test]
+fn level_zero_ends_no_message(rt: HostRuntime) -> Result<(), Fail> {
+    let zero = [
+        Op::Eoi,
+        STORE,
+        Op::Eom,
+        Op::Set(Name::Rcx, 0),
+        Op::VtlCall,
+        Op::Eoi,
+    ];
+    let one = [Op::VtlReturn, Op::Eom, Op::Eom];
+    let puts = [(Vtl::Zero, Name::Rcx, 1)];
+    let answers = [ROUND, 1, TAKEN, ROUND, 15, ROUND, ROUND, 0];
+    let left = [
+        Left::What(0, denied(Posted::Waiting)),
+        Left::What(3, What::Eom(EomWord::Nothing)),
+        Left::Many(3, 0),
+        // The note still waits for level 1.
+        Left::What(6, What::Eom(EomWord::Slot)),
+    ];
+    leaves(rt.alloc(), &after(&zero, &one, &puts, &answers, 7), &left)
+}
+
+#[test]
+fn level_one_takes_the_vector_of_its_message(rt: HostRuntime) -> Result<(), Fail> {
+    let run = Run {
+        zero: &STORES,
+        one: &[Op::Poll, Op::Ack(Name::Rbx), Op::Eom, Op::Eoi],
+        opening: Opening::Both(Vtl::Zero, &OPENING, &[]),
+        way: Way::Memory(read_only(), 0, [0, 0]),
+        attempts: 4,
+        turns: 0,
+    };
+    let left = [
+        Left::What(1, What::Plain),
+        Left::What(2, What::Value(0x31)),
+        Left::What(3, What::Eom(EomWord::Nothing)),
+        Left::Word(0, 0x0000_0050_8000_0001),
+        Left::Word(8, 0x328),
+        Left::Word(0x65, 0),
+        Left::Word(513, 2),
+    ];
+    leaves(rt.alloc(), &run, &left)
 }
