@@ -130,7 +130,12 @@ fn holds(rest: &Rest, left: &Left) -> bool {
         Left::Active(level) => cpu.levels().active() == *level,
         Left::Enabled(enabled) => cpu.levels().enabled(Vtl::One) == *enabled,
         Left::Register(level, name, value) => cpu.bank().get(*level, *name) == *value,
-        Left::Word(place, value) => has_word(rest.words, Layout::of(&LIMITS).memory, *place, *value),
+        Left::Word(place, value) => has_word(
+            rest.words,
+            Layout::of(&LIMITS).memory,
+            *place,
+            *value,
+        ),
         Left::Start(value) => has_word(rest.words, Layout::of(&LIMITS).start, 0, *value),
     }
 }

@@ -1,6 +1,7 @@
 use super::*;
 use crate::left::Left;
 use crate::runs::{Opening, PAGE_1, Put, Run, Way, leaves, mark};
+use std::alloc::Global;
 use std::test::Fail;
 use vsm_base::{Access, Gva, Mask, Name, Page, VpIndex, Vtl};
 use vsm_core::{Denial, EomWord, Event, Op, Operand, PendingWord, Posted, What};
@@ -32,23 +33,26 @@ const TAKEN: u64 = 0x8000_0001;
 /// A generation.
 pub const ROUND: u64 = 5;
 
-/// So many attempts of a processor that begins with level 0 and whose port answers so. These registers are put behind
-/// those of the opening.
-pub fn after<'a>(
-    zero: &'a [Op],
-    one: &'a [Op],
-    puts: &'a [Put],
-    answers: &'a [u64],
+/// Makes so many attempts of a processor that begins with level 0 and whose port answers so. These registers are put
+/// after those of the opening.
+pub fn answered(
+    alloc: Global,
+    programs: (&[Op], &[Op]),
+    puts: &[Put],
+    answers: &[u64],
     attempts: usize,
-) -> Run<'a> {
-    Run {
+    left: &[Left],
+) -> Result<(), Fail> {
+    let (zero, one) = programs;
+    let run = Run {
         zero,
         one,
         opening: Opening::Both(Vtl::Zero, &OPENING, puts),
         way: Way::Fed(answers),
         attempts,
         turns: 0,
-    }
+    };
+    leaves(alloc, &run, left)
 }
 
 /// A page that may be read alone.
@@ -148,8 +152,14 @@ fn level_one_is_told_of_a_denied_store(rt: HostRuntime) -> Result<(), Fail> {
         Left::Register(Vtl::Zero, Name::Rip, 1),
         Left::Ended(None),
     ];
-    let run = after(&STORES, &[Op::Eom; 2], &[], &[ROUND, 1, 0], 2);
-    leaves(rt.alloc(), &run, &left)
+    answered(
+        rt.alloc(),
+        (&STORES, &[Op::Eom; 2]),
+        &[],
+        &[ROUND, 1, 0],
+        2,
+        &left,
+    )
 }
 
 #[test]
@@ -167,7 +177,7 @@ fn a_walk_that_is_denied_at_its_end_has_27_events(rt: HostRuntime) -> Result<(),
         Left::Event(0, 21, slot(9, 0x1328)),
         Left::Active(Vtl::One),
     ];
-    leaves(rt.alloc(), &after(&zero, &[Op::Eom], &puts, &answers, 1), &left)
+    answered(rt.alloc(), (&zero, &[Op::Eom]), &puts, &answers, 1, &left)
 }
 
 #[test]
@@ -186,8 +196,14 @@ fn a_note_waits_where_the_slot_is_taken(rt: HostRuntime) -> Result<(), Fail> {
         Left::Marks(&[mark(Vtl::Zero, 1, denied(Posted::Waiting), 7)]),
         Left::Active(Vtl::One),
     ];
-    let run = after(&STORES, &[Op::Eom], &[], &[ROUND, 1, TAKEN], 1);
-    leaves(rt.alloc(), &run, &left)
+    answered(
+        rt.alloc(),
+        (&STORES, &[Op::Eom]),
+        &[],
+        &[ROUND, 1, TAKEN],
+        1,
+        &left,
+    )
 }
 
 #[test]
@@ -221,8 +237,14 @@ fn a_note_waits_behind_an_older_one(rt: HostRuntime) -> Result<(), Fail> {
         Left::Events(4, &on),
         Left::Active(Vtl::One),
     ];
-    let run = after(&STORES, &ops, &puts, &[ROUND, 1, ROUND, 1, 0], 5);
-    leaves(rt.alloc(), &run, &left)
+    answered(
+        rt.alloc(),
+        (&STORES, &ops),
+        &puts,
+        &[ROUND, 1, ROUND, 1, 0],
+        5,
+        &left,
+    )
 }
 
 #[test]
@@ -237,8 +259,14 @@ fn a_note_waits_where_the_page_is_off(rt: HostRuntime) -> Result<(), Fail> {
         (Vtl::One, Name::Simp, 0x2001),
     ] {
         let puts = [put];
-        let run = after(&STORES, &[Op::Eom], &puts, &[ROUND, 1], 2);
-        leaves(rt.alloc(), &run, &left)?;
+        answered(
+            rt.alloc(),
+            (&STORES, &[Op::Eom]),
+            &puts,
+            &[ROUND, 1],
+            2,
+            &left,
+        )?;
     }
     Ok(())
 }
@@ -252,8 +280,14 @@ fn no_vector_is_requested_where_sint0_has_none(rt: HostRuntime) -> Result<(), Fa
     ];
     for sint in [0x1_0031, 0x0F] {
         let puts = [(Vtl::One, Name::Sint0, sint)];
-        let run = after(&STORES, &[Op::Eom], &puts, &[ROUND, 1, 0], 1);
-        leaves(rt.alloc(), &run, &left)?;
+        answered(
+            rt.alloc(),
+            (&STORES, &[Op::Eom]),
+            &puts,
+            &[ROUND, 1, 0],
+            1,
+            &left,
+        )?;
     }
     Ok(())
 }
@@ -269,8 +303,14 @@ fn nothing_is_told_where_both_pages_are_off(rt: HostRuntime) -> Result<(), Fail>
         Left::Marks(&[mark(Vtl::Zero, 1, denied(Posted::Waiting), 4)]),
         Left::Active(Vtl::One),
     ];
-    let run = after(&STORES, &[Op::Eom], &puts, &[ROUND, 1], 1);
-    leaves(rt.alloc(), &run, &left)
+    answered(
+        rt.alloc(),
+        (&STORES, &[Op::Eom]),
+        &puts,
+        &[ROUND, 1],
+        1,
+        &left,
+    )
 }
 
 #[test]
@@ -305,8 +345,14 @@ fn an_end_of_message_sends_the_note_that_waits(rt: HostRuntime) -> Result<(), Fa
         Left::Many(2, 0),
         Left::Register(Vtl::One, Name::Rip, 2),
     ];
-    let run = after(&STORES, &[Op::Eom; 3], &[], &[ROUND, 1, TAKEN, ROUND, 0], 3);
-    leaves(rt.alloc(), &run, &left)
+    answered(
+        rt.alloc(),
+        (&STORES, &[Op::Eom; 3]),
+        &[],
+        &[ROUND, 1, TAKEN, ROUND, 0],
+        3,
+        &left,
+    )
 }
 
 #[test]
@@ -332,7 +378,7 @@ fn the_oldest_note_is_sent_first_and_says_that_more_wait(rt: HostRuntime) -> Res
         Left::Event(5, 8, slot(5, 2)),
         Left::Event(5, 11, slot(8, 0x330)),
     ];
-    leaves(rt.alloc(), &after(&zero, &one, &puts, &answers, 7), &left)
+    answered(rt.alloc(), (&zero, &one), &puts, &answers, 7, &left)
 }
 
 #[test]
@@ -351,8 +397,14 @@ fn an_end_of_message_waits_where_the_slot_is_taken(rt: HostRuntime) -> Result<()
         Event::Leave,
     ];
     let left = [Left::Whats(&whats), Left::Events(1, &events)];
-    let run = after(&STORES, &[Op::Eom; 3], &[], &answers, 3);
-    leaves(rt.alloc(), &run, &left)
+    answered(
+        rt.alloc(),
+        (&STORES, &[Op::Eom; 3]),
+        &[],
+        &answers,
+        3,
+        &left,
+    )
 }
 
 #[test]
@@ -375,7 +427,7 @@ fn level_zero_ends_no_message(rt: HostRuntime) -> Result<(), Fail> {
         // The note still waits for level 1.
         Left::What(6, What::Eom(EomWord::Slot)),
     ];
-    leaves(rt.alloc(), &after(&zero, &one, &puts, &answers, 7), &left)
+    answered(rt.alloc(), (&zero, &one), &puts, &answers, 7, &left)
 }
 
 #[test]

@@ -1,7 +1,7 @@
 use super::*;
 use crate::left::Left;
-use crate::message_tests::{ROUND, after, checked, told};
-use crate::runs::{leaves, mark};
+use crate::message_tests::{ROUND, answered, checked, told};
+use crate::runs::mark;
 use std::test::Fail;
 use vsm_base::{Name, Vtl};
 use vsm_core::{Event, Op, PendingWord, What};
@@ -46,7 +46,7 @@ fn a_poll_enters_level_one_for_its_vector(rt: HostRuntime) -> Result<(), Fail> {
         Left::Register(Vtl::One, Name::Rbx, 0x40),
         Left::Register(Vtl::One, Name::Rdx, 0),
     ];
-    leaves(rt.alloc(), &after(&POLLS, &one, &puts, &FOR_ONE, 3), &left)
+    answered(rt.alloc(), (&POLLS, &one), &puts, &FOR_ONE, 3, &left)
 }
 
 #[test]
@@ -57,8 +57,14 @@ fn a_poll_enters_without_the_page(rt: HostRuntime) -> Result<(), Fail> {
         Left::Active(Vtl::One),
         Left::Register(Vtl::Zero, Name::Rip, 2),
     ];
-    let run = after(&POLLS, &[Op::Eoi; 2], &puts, &FOR_ONE, 1);
-    leaves(rt.alloc(), &run, &left)
+    answered(
+        rt.alloc(),
+        (&POLLS, &[Op::Eoi; 2]),
+        &puts,
+        &FOR_ONE,
+        1,
+        &left,
+    )
 }
 
 #[test]
@@ -71,8 +77,7 @@ fn a_poll_enters_for_no_lesser_vector(rt: HostRuntime) -> Result<(), Fail> {
     // A class that Cr8 keeps off, and vectors that can't be requested.
     for (cr8, answers) in [(4, FOR_ONE), (0, [0xFFFF, 0, 0, 0, 0xFFFF, 0, 0, 0, ROUND])] {
         let puts = [(Vtl::One, Name::Cr8, cr8)];
-        let run = after(&POLLS, &[Op::Eoi], &puts, &answers, 1);
-        leaves(rt.alloc(), &run, &left)?;
+        answered(rt.alloc(), (&POLLS, &[Op::Eoi]), &puts, &answers, 1, &left)?;
     }
     Ok(())
 }
@@ -94,8 +99,14 @@ fn what_a_poll_took_stays_requested(rt: HostRuntime) -> Result<(), Fail> {
         What::Plain,
         What::Value(0x40),
     ];
-    let run = after(&zero, &one, &puts, &FOR_ONE, 5);
-    leaves(rt.alloc(), &run, &[Left::Whats(&whats)])
+    answered(
+        rt.alloc(),
+        (&zero, &one),
+        &puts,
+        &FOR_ONE,
+        5,
+        &[Left::Whats(&whats)],
+    )
 }
 
 #[test]
@@ -107,7 +118,7 @@ fn a_poll_of_level_one_enters_nothing(rt: HostRuntime) -> Result<(), Fail> {
         Left::Whats(&[What::Plain, What::Plain, What::Value(0x40)]),
         Left::Steps(12),
     ];
-    leaves(rt.alloc(), &after(&zero, &one, &[], &answers, 3), &left)
+    answered(rt.alloc(), (&zero, &one), &[], &answers, 3, &left)
 }
 
 #[test]
@@ -137,8 +148,7 @@ fn an_end_of_interrupt_lets_an_equal_class_come(rt: HostRuntime) -> Result<(), F
         Left::Register(Vtl::Zero, Name::Rdx, 0),
         Left::Register(Vtl::Zero, Name::Rbx, 0x40),
     ];
-    let run = after(&zero, &[Op::Eoi], &puts, &answers, 5);
-    leaves(rt.alloc(), &run, &left)
+    answered(rt.alloc(), (&zero, &[Op::Eoi]), &puts, &answers, 5, &left)
 }
 
 #[test]
@@ -154,6 +164,12 @@ fn level_one_ends_its_own_interrupt(rt: HostRuntime) -> Result<(), Fail> {
         What::Plain,
         What::Value(0x40),
     ];
-    let run = after(&POLLS, &one, &[], &answers, 5);
-    leaves(rt.alloc(), &run, &[Left::Whats(&whats)])
+    answered(
+        rt.alloc(),
+        (&POLLS, &one),
+        &[],
+        &answers,
+        5,
+        &[Left::Whats(&whats)],
+    )
 }

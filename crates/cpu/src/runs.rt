@@ -285,13 +285,7 @@ fn over_plain(
     judged(cpu, fabric.words(), last, left)
 }
 
-fn gone(
-    alloc: Global,
-    cpu: Cpu,
-    program: &Program,
-    run: &Run,
-    left: &[Left],
-) -> Result<(), Fail>
+fn gone(alloc: Global, cpu: Cpu, program: &Program, run: &Run, left: &[Left]) -> Result<(), Fail>
     requires fits { Fits program.now cpu }
     requires number { cpu.number ≡ 0 }
     requires limits { cpu.limits ≡ LIMITS }
@@ -315,12 +309,4 @@ pub fn leaves(alloc: Global, run: &Run, left: &[Left]) -> Result<(), Fail> {
     let program = programs(alloc, run.zero, run.one)?;
     let cpu = opened(alloc, &program, &run.opening)?;
     gone(alloc, cpu, &program, run, left)
-}
-
-/// The same for several runs.
-pub fn each_leaves(alloc: Global, rows: &[(Run, &[Left])]) -> Result<(), Fail> {
-    for (run, left) in rows {
-        leaves(alloc, run, left)?;
-    }
-    Ok(())
 }

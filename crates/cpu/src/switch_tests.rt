@@ -9,34 +9,38 @@ use vsm_core::{Ending, Event, GuestFault, Op, What};
 /// Why a processor at an operation that is undefined there ends.
 const UNDEFINED: GuestFault = GuestFault::Undefined;
 
-/// So many attempts of a processor with both levels, where this one begins, over words of 7.
-fn switching<'a>(
-    zero: &'a [Op],
-    one: &'a [Op],
+/// Makes so many attempts of a processor with both levels, where this one begins, over words of 7.
+fn switches(
+    alloc: Global,
+    programs: (&[Op], &[Op]),
     level: Vtl,
-    puts: &'a [Put],
+    puts: &[Put],
     attempts: usize,
-) -> Run<'a> {
-    Run {
+    left: &[Left],
+) -> Result<(), Fail> {
+    let (zero, one) = programs;
+    let run = Run {
         zero,
         one,
         opening: Opening::Both(level, puts, &[]),
         way: Way::Memory(Mask::all(), 7, [7, 7]),
         attempts,
         turns: 0,
-    }
+    };
+    leaves(alloc, &run, left)
 }
 
-/// A return to this program of level 0, where page 1 has 0x55 for RAX and 0x66 for RCX.
-fn returning<'a>(zero: &'a [Op], puts: &'a [Put]) -> Run<'a> {
-    Run {
+/// Makes a return to this program of level 0, where page 1 has 0x55 for RAX and 0x66 for RCX.
+fn returns(alloc: Global, zero: &[Op], puts: &[Put], left: &[Left]) -> Result<(), Fail> {
+    let run = Run {
         zero,
         one: &[Op::VtlReturn],
         opening: Opening::Both(Vtl::One, puts, &[]),
         way: Way::Memory(Mask::all(), 7, [0x55, 0x66]),
         attempts: 1,
         turns: 0,
-    }
+    };
+    leaves(alloc, &run, left)
 }
 
 /// Fails unless two calls and two returns make no step, with this in level 1's assist page register. The last return
@@ -56,7 +60,7 @@ fn makes_no_step(alloc: Global, assist: u128) -> Result<(), Fail> {
         Left::Seen(&[]),
         Left::Ended(Some(Ending::Done)),
     ];
-    leaves(alloc, &switching(&zero, &one, Vtl::Zero, &puts, 4), &left)
+    switches(alloc, (&zero, &one), Vtl::Zero, &puts, 4, &left)
 }
 
 /// Fails unless the only mark of the operation is its refusal as undefined, where the level begins that the register is
@@ -71,7 +75,7 @@ fn is_undefined(alloc: Global, op: Op, put: Put) -> Result<(), Fail> {
         Left::Active(level),
         Left::Register(level, Name::Rip, 0),
     ];
-    leaves(alloc, &switching(&ops, &ops, level, &puts, 2), &left)
+    switches(alloc, (&ops, &ops), level, &puts, 2, &left)
 }
 
 #[test]
@@ -98,11 +102,7 @@ fn a_call_tells_why_it_enters(rt: HostRuntime) -> Result<(), Fail> {
         Left::Register(Vtl::Zero, Name::Rip, 1),
         Left::Register(Vtl::One, Name::Rip, 1),
     ];
-    leaves(
-        rt.alloc(),
-        &switching(&zero, &one, Vtl::Zero, &puts, 1),
-        &left,
-    )
+    switches(rt.alloc(), (&zero, &one), Vtl::Zero, &puts, 1, &left)
 }
 
 #[test]
@@ -116,11 +116,7 @@ fn level_one_goes_on_where_it_stood(rt: HostRuntime) -> Result<(), Fail> {
         Left::Word(513, 1),
         Left::Word(514, 7),
     ];
-    leaves(
-        rt.alloc(),
-        &switching(&zero, &one, Vtl::Zero, &puts, 2),
-        &left,
-    )
+    switches(rt.alloc(), (&zero, &one), Vtl::Zero, &puts, 2, &left)
 }
 
 #[test]
@@ -152,7 +148,7 @@ fn a_return_takes_rax_and_rcx(rt: HostRuntime) -> Result<(), Fail> {
         Left::Register(Vtl::Zero, Name::Rip, 1),
         Left::Register(Vtl::One, Name::Rip, 1),
     ];
-    leaves(rt.alloc(), &returning(&[Op::Eoi; 2], &puts), &left)
+    returns(rt.alloc(), &[Op::Eoi; 2], &puts, &left)
 }
 
 #[test]
@@ -165,7 +161,7 @@ fn a_fast_return_takes_nothing(rt: HostRuntime) -> Result<(), Fail> {
         Left::Register(Vtl::Zero, Name::Rax, 0),
         Left::Register(Vtl::Zero, Name::Rcx, 1),
     ];
-    leaves(rt.alloc(), &returning(&[Op::Eoi], &puts), &left)
+    returns(rt.alloc(), &[Op::Eoi], &puts, &left)
 }
 
 #[test]
@@ -178,9 +174,9 @@ fn no_step_is_made_without_the_page(rt: HostRuntime) -> Result<(), Fail> {
 
 #[test]
 fn a_call_may_lead_to_the_end(rt: HostRuntime) -> Result<(), Fail> {
-    let run = switching(&[Op::VtlCall; 2], &[], Vtl::Zero, &[], 1);
+    let zero = [Op::VtlCall; 2];
     let left = [Left::Last(CpuTurn::Ended(Ending::Done))];
-    leaves(rt.alloc(), &run, &left)
+    switches(rt.alloc(), (&zero, &[]), Vtl::Zero, &[], 1, &left)
 }
 
 #[test]

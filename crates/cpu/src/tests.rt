@@ -1,6 +1,6 @@
 use super::*;
 use crate::left::Left;
-use crate::runs::{Opening, Run, Way, each_leaves, leaves};
+use crate::runs::{Opening, Run, Way, leaves};
 use std::alloc::Global;
 use std::test::Fail;
 use vsm_base::{Access, Gva, Mask, Name, Page, Vtl};
@@ -14,6 +14,7 @@ const SPIN_ANSWERS: [u64; 9] = [0, 15, 5, 0, 15, 6, 0, 15, 7];
 
 /// A spin behind another operation, which reads 5 three times.
 const VAIN: [Op; 2] = [Op::Set(Name::Rbx, 1), Op::Spin(Gva(0), 7)];
+
 const VAIN_ANSWERS: [u64; 9] = [0, 15, 5, 0, 15, 5, 0, 15, 5];
 
 const UNDEFINED: Ending = Ending::Fault(GuestFault::Undefined);
@@ -28,59 +29,69 @@ fn grant(value: u64) -> Grant {
     }
 }
 
-/// So many attempts of level 0 over memory of this mask and this word.
-fn over<'a>(ops: &'a [Op], mask: Mask, word: u64, attempts: usize) -> Run<'a> {
-    Run {
+/// Makes so many attempts of level 0 over memory of this mask and this word.
+fn over(
+    alloc: Global,
+    ops: &[Op],
+    mask: Mask,
+    word: u64,
+    attempts: usize,
+    left: &[Left],
+) -> Result<(), Fail> {
+    let run = Run {
         zero: ops,
         one: &[],
         opening: Opening::Alone,
         way: Way::Memory(mask, word, [word, word]),
         attempts,
         turns: 0,
-    }
+    };
+    leaves(alloc, &run, left)
 }
 
-/// So many attempts of level 0 whose port answers so, and then so many turns.
-fn fed<'a>(
-    opening: Opening<'a>,
-    ops: &'a [Op],
-    answers: &'a [u64],
-    attempts: usize,
-    turns: usize,
-) -> Run<'a> {
-    Run {
-        zero: ops,
+/// Makes so many attempts of the spin, and then so many turns.
+fn spins(alloc: Global, attempts: usize, turns: usize, left: &[Left]) -> Result<(), Fail> {
+    let run = Run {
+        zero: &SPIN,
         one: &[],
-        opening,
-        way: Way::Fed(answers),
+        opening: Opening::Alone,
+        way: Way::Fed(&SPIN_ANSWERS),
         attempts,
         turns,
-    }
+    };
+    leaves(alloc, &run, left)
 }
 
-fn spinning(attempts: usize, turns: usize) -> Run<'static> {
-    fed(Opening::Alone, &SPIN, &SPIN_ANSWERS, attempts, turns)
-}
-
-fn in_vain(attempts: usize) -> Run<'static> {
-    fed(Opening::NearlySpun, &VAIN, &VAIN_ANSWERS, attempts, 0)
-}
-
-fn waiting(attempts: usize) -> Run<'static> {
-    fed(
-        Opening::Waiting,
-        &[Op::Get(Name::Rax)],
-        &[0, 1],
+/// Makes so many attempts of a processor that has spun two times less than it may.
+fn spins_on(alloc: Global, attempts: usize, left: &[Left]) -> Result<(), Fail> {
+    let run = Run {
+        zero: &VAIN,
+        one: &[],
+        opening: Opening::NearlySpun,
+        way: Way::Fed(&VAIN_ANSWERS),
         attempts,
-        0,
-    )
+        turns: 0,
+    };
+    leaves(alloc, &run, left)
+}
+
+/// Makes so many attempts of a processor that waits, whose second look finds a start.
+fn waits(alloc: Global, attempts: usize, left: &[Left]) -> Result<(), Fail> {
+    let run = Run {
+        zero: &[Op::Get(Name::Rax)],
+        one: &[],
+        opening: Opening::Waiting,
+        way: Way::Fed(&[0, 1]),
+        attempts,
+        turns: 0,
+    };
+    leaves(alloc, &run, left)
 }
 
 /// Fails unless eleven attempts at an operation leave so many marks and end so.
 fn comes_to(alloc: Global, op: Op, count: usize, ended: Ending) -> Result<(), Fail> {
-    let ops = [op];
     let left = [Left::Count(count), Left::Ended(Some(ended))];
-    leaves(alloc, &over(&ops, Mask::all(), 0, 11), &left)
+    over(alloc, &[op], Mask::all(), 0, 11, &left)
 }
 
 #[test]
@@ -121,7 +132,7 @@ fn operations_do_what_they_say(rt: HostRuntime) -> Result<(), Fail> {
         Left::Steps(20),
         Left::Word(1, 0x1234),
     ];
-    leaves(rt.alloc(), &over(&ops, Mask::all(), 0, 10), &left)
+    over(rt.alloc(), &ops, Mask::all(), 0, 10, &left)
 }
 
 #[test]
@@ -142,7 +153,7 @@ fn a_denied_store_writes_nothing(rt: HostRuntime) -> Result<(), Fail> {
         Left::Register(Vtl::Zero, Name::Rip, 0),
         Left::Word(0, 5),
     ];
-    leaves(rt.alloc(), &over(&ops, mask, 5, 2), &left)
+    over(rt.alloc(), &ops, mask, 5, 2, &left)
 }
 
 #[test]
@@ -194,18 +205,20 @@ fn a_spin_leaves_its_last_attempt_alone(rt: HostRuntime) -> Result<(), Fail> {
         Left::Standing(1),
     ];
     // The mark goes at the next turn, and the events at the check of the next attempt.
-    let rows: [(Run, &[Left]); 6] = [
-        (spinning(1, 0), &first),
-        (spinning(1, 1), &[Left::Steps(6), Left::Count(0)]),
-        (spinning(1, 2), &[Left::Steps(2)]),
-        (spinning(1, 3), &[Left::Steps(3)]),
-        (
-            spinning(2, 0),
-            &[Left::Last(CpuTurn::Again), Left::Steps(5)],
-        ),
-        (spinning(3, 0), &last),
+    let gone = [Left::Steps(6), Left::Count(0)];
+    let again = [Left::Last(CpuTurn::Again), Left::Steps(5)];
+    let rows: [(usize, usize, &[Left]); 6] = [
+        (1, 0, &first),
+        (1, 1, &gone),
+        (1, 2, &[Left::Steps(2)]),
+        (1, 3, &[Left::Steps(3)]),
+        (2, 0, &again),
+        (3, 0, &last),
     ];
-    each_leaves(rt.alloc(), &rows)
+    for (attempts, turns, left) in rows {
+        spins(rt.alloc(), attempts, turns, left)?;
+    }
+    Ok(())
 }
 
 #[test]
@@ -216,12 +229,15 @@ fn a_spin_in_vain_ends_it(rt: HostRuntime) -> Result<(), Fail> {
         Left::Count(1),
         Left::Seen(&[]),
     ];
-    let rows: [(Run, &[Left]); 3] = [
-        (in_vain(1), &[Left::Last(CpuTurn::Attempt)]),
-        (in_vain(2), &[Left::Last(CpuTurn::Again)]),
-        (in_vain(3), &spun),
+    let rows: [(usize, &[Left]); 3] = [
+        (1, &[Left::Last(CpuTurn::Attempt)]),
+        (2, &[Left::Last(CpuTurn::Again)]),
+        (3, &spun),
     ];
-    each_leaves(rt.alloc(), &rows)
+    for (attempts, left) in rows {
+        spins_on(rt.alloc(), attempts, left)?;
+    }
+    Ok(())
 }
 
 #[test]
@@ -243,23 +259,27 @@ fn a_walk_has_twelve_steps_or_thirteen(rt: HostRuntime) -> Result<(), Fail> {
         Left::Register(Vtl::Zero, Name::Rax, 9),
         Left::Ended(Some(Ending::Held)),
     ];
-    leaves(
-        rt.alloc(),
-        &fed(Opening::Alone, &ops, &answers, 3, 0),
-        &left,
-    )
+    let run = Run {
+        zero: &ops,
+        one: &[],
+        opening: Opening::Alone,
+        way: Way::Fed(&answers),
+        attempts: 3,
+        turns: 0,
+    };
+    leaves(rt.alloc(), &run, &left)
 }
 
 #[test]
 fn a_processor_waits_for_its_start(rt: HostRuntime) -> Result<(), Fail> {
-    let waits = [Left::Last(CpuTurn::Idle), Left::Seen(&[])];
-    let ends = [
+    let idle = [Left::Last(CpuTurn::Idle), Left::Seen(&[])];
+    let ended = [
         Left::Last(CpuTurn::Ended(UNDEFINED)),
         Left::Count(1),
         Left::Steps(1),
     ];
-    let rows: [(Run, &[Left]); 2] = [(waiting(1), &waits), (waiting(2), &ends)];
-    each_leaves(rt.alloc(), &rows)
+    waits(rt.alloc(), 1, &idle)?;
+    waits(rt.alloc(), 2, &ended)
 }
 
 #[test]
