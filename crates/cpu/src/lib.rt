@@ -24,6 +24,8 @@ pub use cpu_turn::CpuTurn;
 pub use processor::Cpu;
 
 #[cfg(test)]
+mod eom_tests;
+#[cfg(test)]
 mod fed;
 #[cfg(test)]
 mod left;

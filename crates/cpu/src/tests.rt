@@ -29,6 +29,10 @@ fn grant(value: u64) -> Grant {
     }
 }
 
+fn granted(value: u64) -> What {
+    What::Granted(grant(value))
+}
+
 /// Makes so many attempts of level 0 over memory of this mask and this word.
 fn over(
     alloc: Global,
@@ -110,19 +114,17 @@ fn operations_do_what_they_say(rt: HostRuntime) -> Result<(), Fail> {
         Op::Hypercall,
         Op::Jump(99),
     ];
-    let what = What::Granted(grant(0x1234));
-    let plain = What::Plain;
     let whats = [
-        plain,
+        What::Plain,
         What::Value(0x1234),
-        what,
-        what,
-        what,
-        what,
-        plain,
-        plain,
-        plain,
-        plain,
+        granted(0x1234),
+        granted(0x1234),
+        granted(0x1234),
+        granted(0x1234),
+        What::Plain,
+        What::Plain,
+        What::Plain,
+        What::Plain,
     ];
     let left = [
         Left::Whats(&whats),
@@ -200,7 +202,7 @@ fn a_spin_leaves_its_last_attempt_alone(rt: HostRuntime) -> Result<(), Fail> {
     ];
     let last = [
         Left::Last(CpuTurn::Attempt),
-        Left::Whats(&[What::Granted(grant(7))]),
+        Left::Whats(&[granted(7)]),
         Left::Steps(5),
         Left::Standing(1),
     ];
