@@ -15,13 +15,13 @@ pub struct Rest<'a> {
 
 /// A fact of what a run left. A mark goes by its place, and an event by its place in its mark.
 #[derive(Clone, Copy, Debug)]
-pub enum Left<'a> {
+pub enum Left<'m, 'e> {
     /// What the last attempt answered.
     Last(CpuTurn),
     /// These are the marks.
-    Marks(&'a [Mark]),
+    Marks(&'m [Mark]),
     /// These are what the marks came to.
-    Whats(&'a [What]),
+    Whats(&'m [What]),
     /// So many marks there are.
     Count(usize),
     /// So many of them stay.
@@ -31,11 +31,11 @@ pub enum Left<'a> {
     /// The place of a mark's first event, and how many it has.
     Span(usize, u32, u32),
     /// These are the events.
-    Seen(&'a [Event]),
+    Seen(&'e [Event]),
     /// So many events there are.
     Steps(usize),
     /// These are a mark's events.
-    Events(usize, &'a [Event]),
+    Events(usize, &'e [Event]),
     /// So many events a mark has.
     Many(usize, usize),
     Event(usize, usize, Event),

@@ -35,11 +35,11 @@ pub const ROUND: u64 = 5;
 
 /// Makes so many attempts of a processor that begins with level 0 and whose port answers so. These registers are put
 /// after those of the opening.
-pub fn answered(
+pub fn answered<'a>(
     alloc: Global,
-    programs: (&[Op], &[Op]),
-    puts: &[Put],
-    answers: &[u64],
+    programs: (&'a [Op], &'a [Op]),
+    puts: &'a [Put],
+    answers: &'a [u64],
     attempts: usize,
     left: &[Left],
 ) -> Result<(), Fail> {
@@ -220,10 +220,19 @@ fn a_note_waits_behind_an_older_one(rt: HostRuntime) -> Result<(), Fail> {
         (Vtl::One, Name::Simp, 0),
         (Vtl::Zero, Name::Rcx, 1),
     ];
-    let plain = What::Plain;
-    let waits = denied(Posted::Waiting);
-    let off = [Event::Enter, checked(), masked(), told(), Event::Leave];
-    let on = [
+    let whats = [
+        denied(Posted::Waiting),
+        What::Plain,
+        What::Plain,
+        What::Plain,
+        denied(Posted::Waiting),
+    ];
+    let events = [
+        Event::Enter,
+        checked(),
+        masked(),
+        told(),
+        Event::Leave,
         Event::Enter,
         checked(),
         masked(),
@@ -232,9 +241,10 @@ fn a_note_waits_behind_an_older_one(rt: HostRuntime) -> Result<(), Fail> {
         Event::Leave,
     ];
     let left = [
-        Left::Whats(&[waits, plain, plain, plain, waits]),
-        Left::Events(0, &off),
-        Left::Events(4, &on),
+        Left::Whats(&whats),
+        Left::Seen(&events),
+        Left::Span(0, 0, 5),
+        Left::Span(4, 5, 6),
         Left::Active(Vtl::One),
     ];
     answered(

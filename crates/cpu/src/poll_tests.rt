@@ -2,6 +2,7 @@ use super::*;
 use crate::left::Left;
 use crate::message_tests::{ROUND, answered, checked, told};
 use crate::runs::mark;
+use std::alloc::Global;
 use std::test::Fail;
 use vsm_base::{Name, Vtl};
 use vsm_core::{Event, Op, PendingWord, What};
@@ -12,12 +13,26 @@ const POLLS: [Op; 3] = [Op::Eoi, Op::Poll, Op::Eoi];
 /// Vector 0x40 is requested for level 1.
 const FOR_ONE: [u64; 9] = [0, 0, 0, 0, 0, 1, 0, 0, ROUND];
 
+/// Vectors 0 to 15 of both levels are requested.
+const TOO_LOW: [u64; 9] = [0xFFFF, 0, 0, 0, 0xFFFF, 0, 0, 0, ROUND];
+
 /// A poll has taken this from the words of this level, one after the other.
 fn taken(level: Vtl, part: u8, bits: u64) -> Event {
     Event::Take {
         word: PendingWord::Vectors { level, part },
         bits,
     }
+}
+
+/// Fails unless a poll that takes these words enters nothing, with this in Cr8 of level 1.
+fn enters_nothing(alloc: Global, cr8: u128, answers: &[u64]) -> Result<(), Fail> {
+    let puts = [(Vtl::One, Name::Cr8, cr8)];
+    let left = [
+        Left::Marks(&[mark(Vtl::Zero, 1, What::Plain, 8)]),
+        Left::Active(Vtl::Zero),
+        Left::Register(Vtl::Zero, Name::Rip, 2),
+    ];
+    answered(alloc, (&POLLS, &[Op::Eoi]), &puts, answers, 1, &left)
 }
 
 #[test]
@@ -69,17 +84,9 @@ fn a_poll_enters_without_the_page(rt: HostRuntime) -> Result<(), Fail> {
 
 #[test]
 fn a_poll_enters_for_no_lesser_vector(rt: HostRuntime) -> Result<(), Fail> {
-    let left = [
-        Left::Marks(&[mark(Vtl::Zero, 1, What::Plain, 8)]),
-        Left::Active(Vtl::Zero),
-        Left::Register(Vtl::Zero, Name::Rip, 2),
-    ];
     // A class that Cr8 keeps off, and vectors that can't be requested.
-    for (cr8, answers) in [(4, FOR_ONE), (0, [0xFFFF, 0, 0, 0, 0xFFFF, 0, 0, 0, ROUND])] {
-        let puts = [(Vtl::One, Name::Cr8, cr8)];
-        answered(rt.alloc(), (&POLLS, &[Op::Eoi]), &puts, &answers, 1, &left)?;
-    }
-    Ok(())
+    enters_nothing(rt.alloc(), 4, &FOR_ONE)?;
+    enters_nothing(rt.alloc(), 0, &TOO_LOW)
 }
 
 #[test]

@@ -10,11 +10,11 @@ use vsm_core::{Ending, Event, GuestFault, Op, What};
 const UNDEFINED: GuestFault = GuestFault::Undefined;
 
 /// Makes so many attempts of a processor with both levels, where this one begins, over words of 7.
-fn switches(
+fn switches<'a>(
     alloc: Global,
-    programs: (&[Op], &[Op]),
+    programs: (&'a [Op], &'a [Op]),
     level: Vtl,
-    puts: &[Put],
+    puts: &'a [Put],
     attempts: usize,
     left: &[Left],
 ) -> Result<(), Fail> {
@@ -31,7 +31,7 @@ fn switches(
 }
 
 /// Makes a return to this program of level 0, where page 1 has 0x55 for RAX and 0x66 for RCX.
-fn returns(alloc: Global, zero: &[Op], puts: &[Put], left: &[Left]) -> Result<(), Fail> {
+fn returns<'a>(alloc: Global, zero: &'a [Op], puts: &'a [Put], left: &[Left]) -> Result<(), Fail> {
     let run = Run {
         zero,
         one: &[Op::VtlReturn],

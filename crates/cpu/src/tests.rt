@@ -1,10 +1,10 @@
 use super::*;
 use crate::left::Left;
-use crate::runs::{Opening, Run, Way, leaves};
+use crate::runs::{Opening, Run, Way, leaves, mark};
 use std::alloc::Global;
 use std::test::Fail;
 use vsm_base::{Access, Gva, Mask, Name, Page, Vtl};
-use vsm_core::{Denial, Ending, Grant, GuestFault, Mark, Op, Operand, Posted, What};
+use vsm_core::{Denial, Ending, Grant, GuestFault, Op, Operand, Posted, What};
 
 /// A spin at the first word, and an operation behind it.
 const SPIN: [Op; 2] = [Op::Spin(Gva(0), 7), Op::Get(Name::Rax)];
@@ -47,6 +47,25 @@ fn over(
         one: &[],
         opening: Opening::Alone,
         way: Way::Memory(mask, word, [word, word]),
+        attempts,
+        turns: 0,
+    };
+    leaves(alloc, &run, left)
+}
+
+/// Makes so many attempts of level 0 whose port answers so.
+fn answered<'a>(
+    alloc: Global,
+    ops: &'a [Op],
+    answers: &'a [u64],
+    attempts: usize,
+    left: &[Left],
+) -> Result<(), Fail> {
+    let run = Run {
+        zero: ops,
+        one: &[],
+        opening: Opening::Alone,
+        way: Way::Fed(answers),
         attempts,
         turns: 0,
     };
@@ -186,41 +205,35 @@ fn a_fault_and_the_budget_end_it(rt: HostRuntime) -> Result<(), Fail> {
 }
 
 #[test]
-fn a_spin_leaves_its_last_attempt_alone(rt: HostRuntime) -> Result<(), Fail> {
-    let first = Mark {
-        level: Vtl::Zero,
-        rip: 0,
-        what: What::Again(grant(5)),
-        first: 0,
-        count: 5,
-    };
-    let first = [
+fn the_mark_of_a_spin_in_vain_goes_at_the_next_turn(rt: HostRuntime) -> Result<(), Fail> {
+    let left = [
         Left::Last(CpuTurn::Again),
-        Left::Marks(&[first]),
+        Left::Marks(&[mark(Vtl::Zero, 0, What::Again(grant(5)), 5)]),
         Left::Standing(0),
         Left::Steps(5),
     ];
-    let last = [
+    spins(rt.alloc(), 1, 0, &left)?;
+    // The mark goes at the next turn, and the events at the check of the next attempt.
+    spins(rt.alloc(), 1, 1, &[Left::Steps(6), Left::Count(0)])?;
+    spins(rt.alloc(), 1, 2, &[Left::Steps(2)])?;
+    spins(rt.alloc(), 1, 3, &[Left::Steps(3)])?;
+    spins(
+        rt.alloc(),
+        2,
+        0,
+        &[Left::Last(CpuTurn::Again), Left::Steps(5)],
+    )
+}
+
+#[test]
+fn a_spin_leaves_its_last_attempt_alone(rt: HostRuntime) -> Result<(), Fail> {
+    let left = [
         Left::Last(CpuTurn::Attempt),
         Left::Whats(&[granted(7)]),
         Left::Steps(5),
         Left::Standing(1),
     ];
-    // The mark goes at the next turn, and the events at the check of the next attempt.
-    let gone = [Left::Steps(6), Left::Count(0)];
-    let again = [Left::Last(CpuTurn::Again), Left::Steps(5)];
-    let rows: [(usize, usize, &[Left]); 6] = [
-        (1, 0, &first),
-        (1, 1, &gone),
-        (1, 2, &[Left::Steps(2)]),
-        (1, 3, &[Left::Steps(3)]),
-        (2, 0, &again),
-        (3, 0, &last),
-    ];
-    for (attempts, turns, left) in rows {
-        spins(rt.alloc(), attempts, turns, left)?;
-    }
-    Ok(())
+    spins(rt.alloc(), 3, 0, &left)
 }
 
 #[test]
@@ -231,15 +244,9 @@ fn a_spin_in_vain_ends_it(rt: HostRuntime) -> Result<(), Fail> {
         Left::Count(1),
         Left::Seen(&[]),
     ];
-    let rows: [(usize, &[Left]); 3] = [
-        (1, &[Left::Last(CpuTurn::Attempt)]),
-        (2, &[Left::Last(CpuTurn::Again)]),
-        (3, &spun),
-    ];
-    for (attempts, left) in rows {
-        spins_on(rt.alloc(), attempts, left)?;
-    }
-    Ok(())
+    spins_on(rt.alloc(), 1, &[Left::Last(CpuTurn::Attempt)])?;
+    spins_on(rt.alloc(), 2, &[Left::Last(CpuTurn::Again)])?;
+    spins_on(rt.alloc(), 3, &spun)
 }
 
 #[test]
@@ -261,15 +268,7 @@ fn a_walk_has_twelve_steps_or_thirteen(rt: HostRuntime) -> Result<(), Fail> {
         Left::Register(Vtl::Zero, Name::Rax, 9),
         Left::Ended(Some(Ending::Held)),
     ];
-    let run = Run {
-        zero: &ops,
-        one: &[],
-        opening: Opening::Alone,
-        way: Way::Fed(&answers),
-        attempts: 3,
-        turns: 0,
-    };
-    leaves(rt.alloc(), &run, &left)
+    answered(rt.alloc(), &ops, &answers, 3, &left)
 }
 
 #[test]
