@@ -110,7 +110,7 @@ fn has_word(words: &[u64], first: u32, place: usize, wanted: u64) -> bool {
     words.get((first as usize).saturating_add(place)) == Some(&wanted)
 }
 
-fn holds(rest: &Rest, left: &Left) -> bool {
+pub fn holds(rest: &Rest, left: &Left) -> bool {
     let cpu = rest.cpu;
     match left {
         Left::Last(turn) => rest.last == Some(*turn),
@@ -138,9 +138,4 @@ fn holds(rest: &Rest, left: &Left) -> bool {
         ),
         Left::Start(value) => has_word(rest.words, Layout::of(&LIMITS).start, 0, *value),
     }
-}
-
-/// The place of the first fact that doesn't hold.
-pub fn missed(rest: &Rest, left: &[Left]) -> Option<usize> {
-    left.iter().position(|fact| !holds(rest, fact))
 }

@@ -4,7 +4,7 @@ ghost use Rattle.cpu.specs.Turns.{VpServes, Fits, phase_at};
 
 use super::*;
 use crate::fed::new_fed;
-use crate::left::{Left, Rest, missed};
+use crate::left::{Left, Rest, holds};
 use fabric::{PlainFabric, Port, Steward};
 use register_file::{Bank, Context};
 use std::alloc::Global;
@@ -232,12 +232,12 @@ fn judged(cpu: Cpu, words: &[u64], last: Option<CpuTurn>, left: &[Left]) -> Resu
         words,
         last,
     };
-    let missed = missed(&rest, left);
+    let missed = left.iter().find(|fact| !holds(&rest, fact));
     if !gives_lists(cpu) {
         return Err("the lists that are given up".into());
     }
     match missed {
-        Some(place) => Err(Fail::new(format_args!("fact {place} doesn't hold"))),
+        Some(fact) => Err(Fail::new(format_args!("this doesn't hold: {fact:?}"))),
         None => Ok(()),
     }
 }
