@@ -50,6 +50,37 @@ pub enum Left<'m, 'e> {
     Start(u64),
 }
 
+/// Whether the fact holds of what is left.
+pub fn holds(rest: &Rest, left: &Left) -> bool {
+    let cpu = rest.cpu;
+    match left {
+        Left::Last(turn) => rest.last == Some(*turn),
+        Left::Marks(marks) => cpu.marks() == *marks,
+        Left::Whats(whats) => same_whats(cpu.marks(), whats),
+        Left::Count(count) => cpu.marks().len() == *count,
+        Left::Standing(count) => cpu.standing() == *count,
+        Left::Mark(place, mark) => has_mark(cpu, *place, mark),
+        Left::What(place, what) => has_what(cpu, *place, what),
+        Left::Span(place, first, count) => span(cpu, *place) == Some((*first, *count)),
+        Left::Seen(events) => cpu.seen() == *events,
+        Left::Steps(count) => cpu.seen().len() == *count,
+        Left::Events(place, events) => has_events(cpu, *place, events),
+        Left::Many(place, count) => has_many(cpu, *place, *count),
+        Left::Event(place, index, event) => has_event(cpu, *place, *index, event),
+        Left::Ended(ended) => cpu.ended() == *ended,
+        Left::Active(level) => cpu.levels().active() == *level,
+        Left::Enabled(enabled) => cpu.levels().enabled(Vtl::One) == *enabled,
+        Left::Register(level, name, value) => cpu.bank().get(*level, *name) == *value,
+        Left::Word(place, value) => has_word(
+            rest.words,
+            Layout::of(&LIMITS).memory,
+            *place,
+            *value,
+        ),
+        Left::Start(value) => has_word(rest.words, Layout::of(&LIMITS).start, 0, *value),
+    }
+}
+
 fn same_whats(marks: &[Mark], whats: &[What]) -> bool {
     if marks.len() != whats.len() {
         return false;
@@ -108,34 +139,4 @@ fn has_what(cpu: &Cpu, place: usize, wanted: &What) -> bool {
 
 fn has_word(words: &[u64], first: u32, place: usize, wanted: u64) -> bool {
     words.get((first as usize).saturating_add(place)) == Some(&wanted)
-}
-
-pub fn holds(rest: &Rest, left: &Left) -> bool {
-    let cpu = rest.cpu;
-    match left {
-        Left::Last(turn) => rest.last == Some(*turn),
-        Left::Marks(marks) => cpu.marks() == *marks,
-        Left::Whats(whats) => same_whats(cpu.marks(), whats),
-        Left::Count(count) => cpu.marks().len() == *count,
-        Left::Standing(count) => cpu.standing() == *count,
-        Left::Mark(place, mark) => has_mark(cpu, *place, mark),
-        Left::What(place, what) => has_what(cpu, *place, what),
-        Left::Span(place, first, count) => span(cpu, *place) == Some((*first, *count)),
-        Left::Seen(events) => cpu.seen() == *events,
-        Left::Steps(count) => cpu.seen().len() == *count,
-        Left::Events(place, events) => has_events(cpu, *place, events),
-        Left::Many(place, count) => has_many(cpu, *place, *count),
-        Left::Event(place, index, event) => has_event(cpu, *place, *index, event),
-        Left::Ended(ended) => cpu.ended() == *ended,
-        Left::Active(level) => cpu.levels().active() == *level,
-        Left::Enabled(enabled) => cpu.levels().enabled(Vtl::One) == *enabled,
-        Left::Register(level, name, value) => cpu.bank().get(*level, *name) == *value,
-        Left::Word(place, value) => has_word(
-            rest.words,
-            Layout::of(&LIMITS).memory,
-            *place,
-            *value,
-        ),
-        Left::Start(value) => has_word(rest.words, Layout::of(&LIMITS).start, 0, *value),
-    }
 }

@@ -32,7 +32,7 @@ pub enum Opening<'a> {
     Waiting,
     /// It has started, and level 1 isn't enabled.
     Alone,
-    /// The same with two reads of spins in vain less behind it than it may have.
+    /// The same, two reads short of the last that its spins may make in vain.
     NearlySpun,
     /// Level 1 is enabled, this level is active, and these registers were put, one after the other.
     Both(Vtl, &'a [Put], &'a [Put]),
@@ -59,6 +59,13 @@ pub struct Run<'a> {
     pub way: Way<'a>,
     pub attempts: usize,
     pub turns: usize,
+}
+
+/// Makes a run, and fails unless it leaves all that.
+pub fn leaves(alloc: Global, run: &Run, left: &[Left]) -> Result<(), Fail> {
+    let program = programs(alloc, run.zero, run.one)?;
+    let cpu = opened(alloc, &program, &run.opening)?;
+    over_port(alloc, cpu, &program, run, left)
 }
 
 /// A mark of an attempt of level 0 or 1 that stood there, whose events are the first.
@@ -285,7 +292,13 @@ fn over_plain(
     judged(cpu, fabric.words(), last, left)
 }
 
-fn gone(alloc: Global, cpu: Cpu, program: &Program, run: &Run, left: &[Left]) -> Result<(), Fail>
+fn over_port(
+    alloc: Global,
+    cpu: Cpu,
+    program: &Program,
+    run: &Run,
+    left: &[Left],
+) -> Result<(), Fail>
     requires fits { Fits program.now cpu }
     requires number { cpu.number ≡ 0 }
     requires limits { cpu.limits ≡ LIMITS }
@@ -302,11 +315,4 @@ fn gone(alloc: Global, cpu: Cpu, program: &Program, run: &Run, left: &[Left]) ->
             over_plain(cpu, fabric, program, run, left)
         }
     }
-}
-
-/// Makes a run, and fails unless it leaves all that.
-pub fn leaves(alloc: Global, run: &Run, left: &[Left]) -> Result<(), Fail> {
-    let program = programs(alloc, run.zero, run.one)?;
-    let cpu = opened(alloc, &program, &run.opening)?;
-    gone(alloc, cpu, &program, run, left)
 }
