@@ -1,6 +1,6 @@
 // What a run of a processor must leave, a fact at a time.
 use super::*;
-use crate::runs::LIMITS;
+use crate::runs::{Answer, LIMITS};
 use fabric::Layout;
 use vsm_base::{Name, Vtl};
 use vsm_core::{Ending, Event, Mark, What};
@@ -10,14 +10,14 @@ use vsm_core::{Ending, Event, Mark, What};
 pub struct Rest<'a> {
     pub cpu: &'a Cpu,
     pub words: &'a [u64],
-    pub last: Option<CpuTurn>,
+    pub last: Option<Answer>,
 }
 
 /// A fact of what a run left. A mark goes by its place, and an event by its place in its mark.
 #[derive(Clone, Copy, Debug)]
 pub enum Left<'m, 'e> {
     /// What the last attempt answered.
-    Last(CpuTurn),
+    Last(Answer),
     /// These are the marks.
     Marks(&'m [Mark]),
     /// These are what the marks came to.

@@ -31,6 +31,8 @@ mod eom_tests;
 #[cfg(test)]
 mod fed;
 #[cfg(test)]
+mod hypercall_tests;
+#[cfg(test)]
 mod left;
 #[cfg(test)]
 mod message_tests;

@@ -1,5 +1,5 @@
 // Runs of a processor from an opening over a port, and what each must leave.
-ghost use Rattle.std.specs.Prelude.{◌≡◌, get_or, IfOk, IfSome, None};
+ghost use Rattle.std.specs.Prelude.{◌≡◌, get_or, IfOk, IfSome, None, false};
 ghost use Rattle.cpu.specs.Turns.{VpServes, Fits, phase_at};
 
 use super::*;
@@ -9,8 +9,8 @@ use fabric::{PlainFabric, Port, Steward};
 use register_file::{Bank, Context};
 use std::alloc::Global;
 use std::test::Fail;
-use vsm_base::{Items, Limits, Mask, Name, VpIndex, Vtl};
-use vsm_core::{Mark, Op, Phase, Program, What};
+use vsm_base::{HvStatus, Items, Limits, Mask, Name, VpIndex, Vtl};
+use vsm_core::{Ending, Mark, Op, PartCall, Phase, Program, Reply, Request, What};
 use vtl_state::Levels;
 
 pub const LIMITS: Limits = Limits {
@@ -90,6 +90,7 @@ fn processor(alloc: Global, started: bool, program: &Program) -> Result<Cpu, Fai
     ensures number { IfOk result (λ cpu. cpu.number ≡ 0) }
     ensures limits { IfOk result (λ cpu. cpu.limits ≡ LIMITS) }
     ensures idle { IfOk result (λ cpu. phase_at cpu.seen cpu.first ≡ Phase.Idle) }
+    ensures answered { IfOk result (λ cpu. cpu.owes ≡ false) }
 {
     Ok(Cpu::new(alloc, VpIndex(0), &LIMITS, started, program)?)
 }
@@ -131,6 +132,7 @@ fn with_both(
     ensures number { IfOk result (λ cpu. cpu.number ≡ 0) }
     ensures limits { IfOk result (λ cpu. cpu.limits ≡ LIMITS) }
     ensures idle { IfOk result (λ cpu. phase_at cpu.seen cpu.first ≡ Phase.Idle) }
+    ensures answered { IfOk result (λ cpu. cpu.owes ≡ false) }
 {
     let cpu = processor(alloc, true, program)?;
     match placed(cpu, level, first, then) {
@@ -144,6 +146,7 @@ fn opened(alloc: Global, program: &Program, opening: &Opening) -> Result<Cpu, Fa
     ensures number { IfOk result (λ cpu. cpu.number ≡ 0) }
     ensures limits { IfOk result (λ cpu. cpu.limits ≡ LIMITS) }
     ensures idle { IfOk result (λ cpu. phase_at cpu.seen cpu.first ≡ Phase.Idle) }
+    ensures answered { IfOk result (λ cpu. cpu.owes ≡ false) }
 {
     match opening {
         Opening::Waiting => processor(alloc, false, program),
@@ -164,50 +167,128 @@ fn plain(alloc: Global, mask: Mask, word: u64, given: [u64; 2]) -> Result<PlainF
     Ok(PlainFabric::new(alloc, &LIMITS, masks.as_slice(), &words)?)
 }
 
+/// What a turn answered; a request was answered at once.
+#[derive(Clone, Copy, Debug, PartialEq, Eq)]
+pub enum Answer {
+    Moved,
+    Idle,
+    Attempt,
+    Again,
+    Ended(Ending),
+}
+
+/// A status that tells who asked: 0 for processor 0 and its own partition, else one of a refusal.
+fn status_of(by: VpIndex, words: &[u64]) -> HvStatus {
+    match (by, words.first()) {
+        (VpIndex(0), Some(0xFFFF_FFFF_FFFF_FFFF)) => HvStatus::SUCCESS,
+        (VpIndex(0), _) => HvStatus::INVALID_PARTITION_ID,
+        _ => HvStatus::INVALID_VP_INDEX,
+    }
+}
+
+/// The context of level 1 behind two words.
+fn context_in(words: &[u64; 30]) -> [u64; 28] {
+    let mut context = [0; 28];
+    context.copy_from_slice(&words[2..]);
+    context
+}
+
+/// What a partition of these tests replies, by the words of the request alone.
+fn reply_to(request: &Request) -> Reply
+    ensures { result.done ≡ 0 }
+{
+    let mut reply = Reply {
+        status: HvStatus::INVALID_HYPERCALL_CODE,
+        done: 0,
+        value: 0,
+        context: None,
+    };
+    match &request.call {
+        PartCall::EnablePartition(words) => reply.status = status_of(request.by, words),
+        PartCall::EnableVp(words) => {
+            reply.status = status_of(request.by, words);
+            reply.context = Some((Vtl::One, context_in(words), None));
+        }
+        _ => {}
+    }
+    reply
+}
+
+fn answer_of(turn: &CpuTurn) -> Answer {
+    match turn {
+        CpuTurn::Moved => Answer::Moved,
+        CpuTurn::Idle => Answer::Idle,
+        CpuTurn::Attempt => Answer::Attempt,
+        CpuTurn::Again => Answer::Again,
+        CpuTurn::Wants(_) => Answer::Moved,
+        CpuTurn::Ended(ending) => Answer::Ended(*ending),
+    }
+}
+
+/// Makes a turn, and takes the reply where the turn asks for something.
+fn whole_turn<P: Port>(cpu: &mut Cpu, port: &mut P, program: &Program) -> Answer
+    requires going { cpu.old.ended ≡ None }
+    requires fits { Fits program.now cpu.old }
+    requires serves { VpServes cpu.old (P.seat port.old) }
+    requires answered { cpu.old.owes ≡ false }
+    ensures fits { Fits program.now cpu.new }
+    ensures serves { VpServes cpu.new (P.seat port.new) }
+    ensures answered { cpu.new.owes ≡ false }
+{
+    match cpu.turn(port, program) {
+        CpuTurn::Wants(request) => {
+            let turn = cpu.accept(reply_to(&request));
+            answer_of(&turn)
+        }
+        turn => answer_of(&turn),
+    }
+}
+
 /// Makes so many turns, while there is no ending.
 fn turns<P: Port>(cpu: &mut Cpu, port: &mut P, program: &Program, count: usize)
     requires fits { Fits program.now cpu.old }
     requires serves { VpServes cpu.old (P.seat port.old) }
+    requires answered { cpu.old.owes ≡ false }
     ensures fits { Fits program.now cpu.new }
     ensures serves { VpServes cpu.new (P.seat port.new) }
+    ensures answered { cpu.new.owes ≡ false }
 {
     'turns: for _ in 0..count {
         if cpu.ended().is_none() {
-            cpu.turn(port, program);
+            whole_turn(cpu, port, program);
         }
     }
 }
 
 /// Makes turns until one doesn't answer that the attempt goes on, at most so many as an attempt may have.
-fn attempt<P: Port>(cpu: &mut Cpu, port: &mut P, program: &Program) -> Option<CpuTurn>
+fn attempt<P: Port>(cpu: &mut Cpu, port: &mut P, program: &Program) -> Option<Answer>
     requires fits { Fits program.now cpu.old }
     requires serves { VpServes cpu.old (P.seat port.old) }
+    requires answered { cpu.old.owes ≡ false }
     ensures fits { Fits program.now cpu.new }
     ensures serves { VpServes cpu.new (P.seat port.new) }
+    ensures answered { cpu.new.owes ≡ false }
 {
-    'turns: for _ in 0..28 {
+    'turns: for _ in 0..35 {
         if cpu.ended().is_some() {
             return None;
         }
-        match cpu.turn(port, program) {
-            CpuTurn::Moved => {}
-            turn => return Some(turn),
+        match whole_turn(cpu, port, program) {
+            Answer::Moved => {}
+            answer => return Some(answer),
         }
     }
     None
 }
 
 /// Makes so many attempts, and says what the last one answered.
-fn attempts<P: Port>(
-    cpu: &mut Cpu,
-    port: &mut P,
-    program: &Program,
-    count: usize,
-) -> Option<CpuTurn>
+fn attempts<P: Port>(cpu: &mut Cpu, port: &mut P, program: &Program, count: usize) -> Option<Answer>
     requires fits { Fits program.now cpu.old }
     requires serves { VpServes cpu.old (P.seat port.old) }
+    requires answered { cpu.old.owes ≡ false }
     ensures fits { Fits program.now cpu.new }
     ensures serves { VpServes cpu.new (P.seat port.new) }
+    ensures answered { cpu.new.owes ≡ false }
 {
     let mut last = None;
     'attempts: for _ in 0..count {
@@ -217,9 +298,10 @@ fn attempts<P: Port>(
 }
 
 /// Makes the attempts and then the turns of a run, and says what the last attempt answered.
-fn made<P: Port>(cpu: &mut Cpu, port: &mut P, program: &Program, run: &Run) -> Option<CpuTurn>
+fn made<P: Port>(cpu: &mut Cpu, port: &mut P, program: &Program, run: &Run) -> Option<Answer>
     requires fits { Fits program.now cpu.old }
     requires serves { VpServes cpu.old (P.seat port.old) }
+    requires answered { cpu.old.owes ≡ false }
 {
     let last = attempts(cpu, port, program, run.attempts);
     turns(cpu, port, program, run.turns);
@@ -233,7 +315,7 @@ fn gives_lists(cpu: Cpu) -> bool {
     lengths == (marks.len(), seen.len())
 }
 
-fn judged(cpu: Cpu, words: &[u64], last: Option<CpuTurn>, left: &[Left]) -> Result<(), Fail> {
+fn judged(cpu: Cpu, words: &[u64], last: Option<Answer>, left: &[Left]) -> Result<(), Fail> {
     let rest = Rest {
         cpu: &cpu,
         words,
@@ -261,6 +343,7 @@ fn over_fed(
     requires number { cpu.number ≡ 0 }
     requires limits { cpu.limits ≡ LIMITS }
     requires idle { phase_at cpu.seen cpu.first ≡ Phase.Idle }
+    requires answered { cpu.owes ≡ false }
 {
     let mut cpu = cpu;
     let mut port = new_fed(alloc, LIMITS, answers)?;
@@ -279,6 +362,7 @@ fn over_plain(
     requires number { cpu.number ≡ 0 }
     requires limits { cpu.limits ≡ LIMITS }
     requires idle { phase_at cpu.seen cpu.first ≡ Phase.Idle }
+    requires answered { cpu.owes ≡ false }
     requires same { fabric.limits ≡ LIMITS }
     requires free { get_or fabric.fabric.phases 0 Phase.Idle ≡ Phase.Idle }
 {
@@ -303,6 +387,7 @@ fn over_port(
     requires number { cpu.number ≡ 0 }
     requires limits { cpu.limits ≡ LIMITS }
     requires idle { phase_at cpu.seen cpu.first ≡ Phase.Idle }
+    requires answered { cpu.owes ≡ false }
 {
     match run.way {
         Way::Fed(answers) => over_fed(alloc, cpu, program, run, answers, left),

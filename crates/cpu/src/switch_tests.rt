@@ -1,6 +1,6 @@
 use super::*;
 use crate::left::Left;
-use crate::runs::{Opening, PAGE_1, Put, Run, Way, leaves, mark};
+use crate::runs::{Answer, Opening, PAGE_1, Put, Run, Way, leaves, mark};
 use std::alloc::Global;
 use std::test::Fail;
 use vsm_base::{Mask, Name, Page, Vtl};
@@ -94,7 +94,7 @@ fn a_call_tells_why_it_enters(rt: HostRuntime) -> Result<(), Fail> {
         Event::Leave,
     ];
     let left = [
-        Left::Last(CpuTurn::Attempt),
+        Left::Last(Answer::Attempt),
         Left::Seen(&events),
         Left::Marks(&[mark(Vtl::Zero, 0, What::Plain, 4)]),
         Left::Active(Vtl::One),
@@ -111,7 +111,7 @@ fn level_one_goes_on_where_it_stood(rt: HostRuntime) -> Result<(), Fail> {
     let one = [Op::Eoi, Op::Jump(2)];
     let puts = [PAGE_1, (Vtl::One, Name::Rip, 1)];
     let left = [
-        Left::Last(CpuTurn::Ended(Ending::Done)),
+        Left::Last(Answer::Ended(Ending::Done)),
         Left::Word(512, 7),
         Left::Word(513, 1),
         Left::Word(514, 7),
@@ -139,7 +139,7 @@ fn a_return_takes_rax_and_rcx(rt: HostRuntime) -> Result<(), Fail> {
         Event::Leave,
     ];
     let left = [
-        Left::Last(CpuTurn::Attempt),
+        Left::Last(Answer::Attempt),
         Left::Seen(&events),
         Left::Marks(&[mark(Vtl::One, 0, What::Plain, 5)]),
         Left::Active(Vtl::Zero),
@@ -155,7 +155,7 @@ fn a_return_takes_rax_and_rcx(rt: HostRuntime) -> Result<(), Fail> {
 fn a_fast_return_takes_nothing(rt: HostRuntime) -> Result<(), Fail> {
     let puts = [PAGE_1, (Vtl::One, Name::Rcx, 1)];
     let left = [
-        Left::Last(CpuTurn::Attempt),
+        Left::Last(Answer::Attempt),
         Left::Seen(&[]),
         Left::Active(Vtl::Zero),
         Left::Register(Vtl::Zero, Name::Rax, 0),
@@ -175,7 +175,7 @@ fn no_step_is_made_without_the_page(rt: HostRuntime) -> Result<(), Fail> {
 #[test]
 fn a_call_may_lead_to_the_end(rt: HostRuntime) -> Result<(), Fail> {
     let zero = [Op::VtlCall; 2];
-    let left = [Left::Last(CpuTurn::Ended(Ending::Done))];
+    let left = [Left::Last(Answer::Ended(Ending::Done))];
     switches(rt.alloc(), (&zero, &[]), Vtl::Zero, &[], 1, &left)
 }
 
@@ -206,7 +206,7 @@ fn a_call_needs_level_one(rt: HostRuntime) -> Result<(), Fail> {
         turns: 0,
     };
     let left = [
-        Left::Last(CpuTurn::Ended(Ending::Fault(UNDEFINED))),
+        Left::Last(Answer::Ended(Ending::Fault(UNDEFINED))),
         Left::Enabled(false),
     ];
     leaves(rt.alloc(), &run, &left)

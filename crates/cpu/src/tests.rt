@@ -1,6 +1,6 @@
 use super::*;
 use crate::left::Left;
-use crate::runs::{Opening, Run, Way, leaves, mark};
+use crate::runs::{Answer, Opening, Run, Way, leaves, mark};
 use std::alloc::Global;
 use std::test::Fail;
 use vsm_base::{Access, Gva, Mask, Name, Page, Vtl};
@@ -197,7 +197,7 @@ fn a_fault_and_the_budget_end_it(rt: HostRuntime) -> Result<(), Fail> {
             1,
             Ending::Fault(GuestFault::Gp),
         ),
-        (Op::Hypercall, 1, UNDEFINED),
+        (Op::Invlpg(Gva(0)), 1, UNDEFINED),
     ] {
         comes_to(rt.alloc(), op, count, ended)?;
     }
@@ -207,7 +207,7 @@ fn a_fault_and_the_budget_end_it(rt: HostRuntime) -> Result<(), Fail> {
 #[test]
 fn the_mark_of_a_spin_in_vain_goes_at_the_next_turn(rt: HostRuntime) -> Result<(), Fail> {
     let left = [
-        Left::Last(CpuTurn::Again),
+        Left::Last(Answer::Again),
         Left::Marks(&[mark(Vtl::Zero, 0, What::Again(grant(5)), 5)]),
         Left::Standing(0),
         Left::Steps(5),
@@ -221,14 +221,14 @@ fn the_mark_of_a_spin_in_vain_goes_at_the_next_turn(rt: HostRuntime) -> Result<(
         rt.alloc(),
         2,
         0,
-        &[Left::Last(CpuTurn::Again), Left::Steps(5)],
+        &[Left::Last(Answer::Again), Left::Steps(5)],
     )
 }
 
 #[test]
 fn a_spin_leaves_its_last_attempt_alone(rt: HostRuntime) -> Result<(), Fail> {
     let left = [
-        Left::Last(CpuTurn::Attempt),
+        Left::Last(Answer::Attempt),
         Left::Whats(&[granted(7)]),
         Left::Steps(5),
         Left::Standing(1),
@@ -239,13 +239,13 @@ fn a_spin_leaves_its_last_attempt_alone(rt: HostRuntime) -> Result<(), Fail> {
 #[test]
 fn a_spin_in_vain_ends_it(rt: HostRuntime) -> Result<(), Fail> {
     let spun = [
-        Left::Last(CpuTurn::Ended(Ending::Spun)),
+        Left::Last(Answer::Ended(Ending::Spun)),
         Left::Ended(Some(Ending::Spun)),
         Left::Count(1),
         Left::Seen(&[]),
     ];
-    spins_on(rt.alloc(), 1, &[Left::Last(CpuTurn::Attempt)])?;
-    spins_on(rt.alloc(), 2, &[Left::Last(CpuTurn::Again)])?;
+    spins_on(rt.alloc(), 1, &[Left::Last(Answer::Attempt)])?;
+    spins_on(rt.alloc(), 2, &[Left::Last(Answer::Again)])?;
     spins_on(rt.alloc(), 3, &spun)
 }
 
@@ -273,9 +273,9 @@ fn a_walk_has_twelve_steps_or_thirteen(rt: HostRuntime) -> Result<(), Fail> {
 
 #[test]
 fn a_processor_waits_for_its_start(rt: HostRuntime) -> Result<(), Fail> {
-    let idle = [Left::Last(CpuTurn::Idle), Left::Seen(&[])];
+    let idle = [Left::Last(Answer::Idle), Left::Seen(&[])];
     let ended = [
-        Left::Last(CpuTurn::Ended(UNDEFINED)),
+        Left::Last(Answer::Ended(UNDEFINED)),
         Left::Count(1),
         Left::Steps(1),
     ];
@@ -293,6 +293,6 @@ fn a_posted_start_is_taken(rt: HostRuntime) -> Result<(), Fail> {
         attempts: 1,
         turns: 0,
     };
-    let left = [Left::Last(CpuTurn::Ended(UNDEFINED)), Left::Start(0)];
+    let left = [Left::Last(Answer::Ended(UNDEFINED)), Left::Start(0)];
     leaves(rt.alloc(), &run, &left)
 }
