@@ -5,7 +5,7 @@ use std::test::Fail;
 use vsm_base::{MemSink, MemSource, SureSink, SureSource};
 
 // Room for the largest text of these scripts.
-const ROOM: usize = 1500;
+const ROOM: usize = 2500;
 
 fn words(alloc: Global, command: &str) -> Result<Vec<String>, AllocError> {
     let mut words = Vec::new(alloc);
