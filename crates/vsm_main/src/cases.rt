@@ -1,9 +1,5 @@
 // Scripts, each with its report as it was written by hand.
 use crate::Status;
-use crate::hypercall_cases::{
-    CALL_AND_RETURN, DENIED_INPUT_WITH_LEVEL_ONE, DENIED_WITH_LEVEL_ONE, ENABLE_TWICE, FAST_RETURN,
-    REFUSED_BEFORE_THE_FIRST_STEP, REFUSED_BY_THE_PARTITION,
-};
 
 /// A script and what the program writes of it.
 #[derive(Clone, Copy)]
@@ -516,7 +512,7 @@ close\n\
 ",
 };
 
-pub const ALL: [Case; 24] = [
+pub const ALL: [Case; 17] = [
     EMPTY_PROGRAM,
     DENIED_STORE,
     LAST_WORD_AND_UNMAPPED,
@@ -534,11 +530,4 @@ pub const ALL: [Case; 24] = [
     CALL_NOT_ENABLED,
     RETURN_IN_LEVEL_0,
     IDLE_CONTROLLER,
-    CALL_AND_RETURN,
-    FAST_RETURN,
-    ENABLE_TWICE,
-    DENIED_WITH_LEVEL_ONE,
-    REFUSED_BEFORE_THE_FIRST_STEP,
-    REFUSED_BY_THE_PARTITION,
-    DENIED_INPUT_WITH_LEVEL_ONE,
 ];

@@ -21,16 +21,23 @@ fn traced(alloc: Global, source: &mut MemSource, sink: &mut MemSink) -> Result<S
 #[test]
 fn each_script_gives_the_report_that_was_written_by_hand(rt: HostRuntime) -> Result<(), Fail> {
     let alloc = rt.alloc();
-    for case in &cases::ALL {
-        let mut source = MemSource::new(case.script.to_vec(alloc)?, Vec::new(alloc), 4096);
-        let mut sink = MemSink::new(vec![in alloc; 0; ROOM]?, Vec::new(alloc), 4096);
-        assert_eq!(rt;
-            traced(alloc, &mut source, &mut sink)?,
-            case.status,
-            "{}",
-            case.name
-        );
-        assert_eq!(rt; sink.taken(), case.text, "{}", case.name);
+    let groups = [
+        cases::ALL.as_slice(),
+        hypercall_cases::CALLS.as_slice(),
+        hypercall_cases::REFUSALS.as_slice(),
+    ];
+    for group in groups {
+        for case in group {
+            let mut source = MemSource::new(case.script.to_vec(alloc)?, Vec::new(alloc), 4096);
+            let mut sink = MemSink::new(vec![in alloc; 0; ROOM]?, Vec::new(alloc), 4096);
+            assert_eq!(rt;
+                traced(alloc, &mut source, &mut sink)?,
+                case.status,
+                "{}",
+                case.name
+            );
+            assert_eq!(rt; sink.taken(), case.text, "{}", case.name);
+        }
     }
     Ok(())
 }
