@@ -25,6 +25,7 @@ all_keywords =
     words.Spin ∷
     words.Jump ∷
     words.JumpNe ∷
+    words.Hypercall ∷
     words.VtlCall ∷
     words.VtlReturn ∷
     words.Poll ∷
@@ -52,6 +53,7 @@ spelling words.Exec = codes "exec"
 spelling words.Spin = codes "spin"
 spelling words.Jump = codes "jump"
 spelling words.JumpNe = codes "jumpne"
+spelling words.Hypercall = codes "hypercall"
 spelling words.VtlCall = codes "vtlcall"
 spelling words.VtlReturn = codes "vtlreturn"
 spelling words.Poll = codes "poll"
@@ -87,6 +89,7 @@ stands words.Exec (stages.Program vp level) = true
 stands words.Spin (stages.Program vp level) = true
 stands words.Jump (stages.Program vp level) = true
 stands words.JumpNe (stages.Program vp level) = true
+stands words.Hypercall (stages.Program vp level) = true
 stands words.VtlCall (stages.Program vp level) = true
 stands words.VtlReturn (stages.Program vp level) = true
 stands words.Poll (stages.Program vp level) = true

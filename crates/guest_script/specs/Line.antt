@@ -179,6 +179,12 @@ jump_ne_line r ws = do
   end ← no_more target.1
   with_op r (ops.JumpNe name.0 value.0 target.0)
 
+-- hypercall
+unfoldable pub hypercall_line : Reading → Words → Result Reading Why
+hypercall_line r ws = do
+  end ← no_more ws
+  with_op r ops.Hypercall
+
 -- vtlcall
 unfoldable pub vtl_call_line : Reading → Words → Result Reading Why
 vtl_call_line r ws = do
@@ -251,6 +257,7 @@ after_words r words.Exec ws = exec_line r ws
 after_words r words.Spin ws = spin_line r ws
 after_words r words.Jump ws = jump_line r ws
 after_words r words.JumpNe ws = jump_ne_line r ws
+after_words r words.Hypercall ws = hypercall_line r ws
 after_words r words.VtlCall ws = vtl_call_line r ws
 after_words r words.VtlReturn ws = vtl_return_line r ws
 after_words r words.Poll ws = poll_line r ws

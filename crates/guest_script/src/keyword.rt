@@ -21,6 +21,7 @@ pub enum Keyword {
     Spin,
     Jump,
     JumpNe,
+    Hypercall,
     VtlCall,
     VtlReturn,
     Poll,
@@ -46,7 +47,7 @@ pub enum Stage {
     Done,
 }
 
-const ALL: [Keyword; 24] = [
+const ALL: [Keyword; 25] = [
     Keyword::Vsm,
     Keyword::Vps,
     Keyword::Pages,
@@ -63,6 +64,7 @@ const ALL: [Keyword; 24] = [
     Keyword::Spin,
     Keyword::Jump,
     Keyword::JumpNe,
+    Keyword::Hypercall,
     Keyword::VtlCall,
     Keyword::VtlReturn,
     Keyword::Poll,
@@ -95,6 +97,7 @@ impl Keyword {
             Keyword::Spin => b"spin",
             Keyword::Jump => b"jump",
             Keyword::JumpNe => b"jumpne",
+            Keyword::Hypercall => b"hypercall",
             Keyword::VtlCall => b"vtlcall",
             Keyword::VtlReturn => b"vtlreturn",
             Keyword::Poll => b"poll",
@@ -146,6 +149,7 @@ pub fn stands(keyword: Keyword, stage: Stage) -> bool
         | Keyword::Spin
         | Keyword::Jump
         | Keyword::JumpNe
+        | Keyword::Hypercall
         | Keyword::VtlCall
         | Keyword::VtlReturn
         | Keyword::Poll

@@ -3,7 +3,7 @@ ghost use Rattle.std.specs.Prelude.{◌≡◌, IfOk, IsTrue};
 ghost use Rattle.std.specs.List.{list_all};
 ghost use Rattle.guest_script.specs.Lines.{words_of};
 ghost use Rattle.guest_script.specs.Fields.{entries};
-ghost use Rattle.guest_script.specs.Line.{Becomes, Collects, is_text, vsm_line, vps_line, pages_line, budget_line, started_line, mask_line, word_line, program_line, with_op, set_line, get_line, load_line, store_line, exec_line, spin_line, jump_line, jump_ne_line, vtl_call_line, vtl_return_line, poll_line, ack_line, eoi_line, eom_line, schedule_line, end_line, after_words, after_line, is_masked, is_begun};
+ghost use Rattle.guest_script.specs.Line.{Becomes, Collects, is_text, vsm_line, vps_line, pages_line, budget_line, started_line, mask_line, word_line, program_line, with_op, set_line, get_line, load_line, store_line, exec_line, spin_line, jump_line, jump_ne_line, hypercall_line, vtl_call_line, vtl_return_line, poll_line, ack_line, eoi_line, eom_line, schedule_line, end_line, after_words, after_line, is_masked, is_begun};
 ghost use Rattle.guest_script.specs.Schedules.{all_known};
 ghost use Rattle.guest_script.specs.Sound.{IsSound, script_of};
 ghost use Rattle.guest_script.specs.declared.reading.LineError.TheVariants.{Memory, Refused};
@@ -348,6 +348,16 @@ impl Reading {
         self.add(Op::JumpNe(name, value as u64, target as u64))
     }
 
+    #[tactic(auto, unfolding(crate::specs::Line::hypercall_line))]
+    fn hypercall_line(&mut self, rest: &[u8]) -> Result<(), LineError>
+        requires sound { IsSound self.old }
+        ensures said { Becomes self.new result (hypercall_line self.old (words_of rest.now)) }
+        ensures sound { IsSound self.new }
+    {
+        no_more(rest)?;
+        self.add(Op::Hypercall)
+    }
+
     #[tactic(auto, unfolding(crate::specs::Line::vtl_call_line))]
     fn vtl_call_line(&mut self, rest: &[u8]) -> Result<(), LineError>
         requires sound { IsSound self.old }
@@ -466,6 +476,7 @@ impl Reading {
             Keyword::Spin => self.spin_line(rest),
             Keyword::Jump => self.jump_line(rest),
             Keyword::JumpNe => self.jump_ne_line(rest),
+            Keyword::Hypercall => self.hypercall_line(rest),
             Keyword::VtlCall => self.vtl_call_line(rest),
             Keyword::VtlReturn => self.vtl_return_line(rest),
             Keyword::Poll => self.poll_line(rest),

@@ -148,14 +148,14 @@ fn jumps_spins_and_executions_are_read_into_a_program(rt: HostRuntime) -> Result
 #[test]
 fn each_level_has_its_program(rt: HostRuntime) -> Result<(), Fail> {
     let text: &[u8] = b"vsm 1\nvps 2\npages 1\nbudget 1\nstarted 2\n\
-program 1 1\nget Rax\n vtlreturn \njump 0\nprogram 0 0\nvtlcall\nvtlreturn\n\
-program 0 1\nprogram 1 0\nvtlcall\nvtlcall\nend\n";
+program 1 1\nget Rax\n vtlreturn \njump 0\nprogram 0 0\n hypercall  \nvtlcall\nvtlreturn\n\
+program 0 1\nhypercall\nprogram 1 0\nvtlcall\nvtlcall\nend\n";
     let script = read(rt.alloc(), text)?;
     assert_eq!(rt; script.programs.len(), 2);
     let first = &script.programs.as_slice()[0];
-    let ops = [Op::VtlCall, Op::VtlReturn];
+    let ops = [Op::Hypercall, Op::VtlCall, Op::VtlReturn];
     assert_eq!(rt; first.zero.as_slice(), ops.as_slice());
-    assert_eq!(rt; first.one.len(), 0);
+    assert_eq!(rt; first.one.as_slice(), [Op::Hypercall].as_slice());
     let second = &script.programs.as_slice()[1];
     let ops = [Op::VtlCall, Op::VtlCall];
     assert_eq!(rt; second.zero.as_slice(), ops.as_slice());
@@ -212,7 +212,7 @@ schedule 7 0*3\nschedule 6*100\nend\n";
 
 #[test]
 fn a_line_in_a_program_is_refused_with_its_cause(rt: HostRuntime) -> Result<(), Fail> {
-    let lines: [(&[u8], Why); 54] = [
+    let lines: [(&[u8], Why); 56] = [
         (b"exec", Why::MissingWord),
         (b"exec Rax", Why::BadNumber),
         (b"exec 18446744073709551616", Why::OutOfRange),
@@ -240,6 +240,8 @@ fn a_line_in_a_program_is_refused_with_its_cause(rt: HostRuntime) -> Result<(), 
         (b"jumpne Rax 0 18446744073709551616", Why::OutOfRange),
         (b"jumpne Rax 0 0 0", Why::ExtraWord),
         (b"jumpeq Rax 0 0", Why::UnknownWord),
+        (b"hypercall 13", Why::ExtraWord),
+        (b"hypercal", Why::UnknownWord),
         (b"vtlcall 0", Why::ExtraWord),
         (b"vtlreturn 1 1", Why::ExtraWord),
         (b"VtlCall", Why::UnknownWord),
@@ -272,8 +274,9 @@ fn a_line_in_a_program_is_refused_with_its_cause(rt: HostRuntime) -> Result<(), 
         let answer = next_in_program(rt.alloc(), line);
         assert_eq!(rt; answer, Err(LineError::Refused(why)));
     }
-    let good: [&[u8]; 11] = [
+    let good: [&[u8]; 12] = [
         b"jumpne Rsp 0 0",
+        b"hypercall",
         b"vtlcall",
         b"vtlreturn",
         b"poll",
@@ -351,7 +354,7 @@ fn a_script_is_refused_before_its_memory(rt: HostRuntime) -> Result<(), Fail> {
 
 #[test]
 fn a_body_is_refused_for_each_cause(rt: HostRuntime) -> Result<(), Fail> {
-    let bodies: [&[u8]; 42] = [
+    let bodies: [&[u8]; 44] = [
         b"",
         b"print\nend\n",
         b"mask 0 1\n\nend\n",
@@ -360,10 +363,12 @@ fn a_body_is_refused_for_each_cause(rt: HostRuntime) -> Result<(), Fail> {
         b"set Rax 0\nend\n",
         b"exec 0\nend\n",
         b"spin 0 0\nend\n",
+        b"hypercall\nend\n",
         b"vtlcall\nend\n",
         b"poll\nend\n",
         b"ack Rax\nend\n",
         b"schedule 0\njump 0\nend\n",
+        b"schedule 0\nhypercall\nend\n",
         b"schedule 0\nvtlreturn\nend\n",
         b"schedule 0\neoi\nend\n",
         b"schedule 0\neom\nend\n",

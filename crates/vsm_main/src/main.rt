@@ -12,6 +12,8 @@ pub use vsm_run::trace;
 #[cfg(test)]
 mod cases;
 #[cfg(test)]
+mod hypercall_cases;
+#[cfg(test)]
 mod tests;
 
 fn main(rt: HostRuntime) -> io::Result<ExitCode> {

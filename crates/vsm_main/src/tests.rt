@@ -5,7 +5,7 @@ use std::test::Fail;
 use vsm_base::{MemSink, MemSource, SureSink, SureSource};
 
 // Room for the largest text of these scripts.
-const ROOM: usize = 1500;
+const ROOM: usize = 2500;
 
 fn words(alloc: Global, command: &str) -> Result<Vec<String>, AllocError> {
     let mut words = Vec::new(alloc);
@@ -21,16 +21,23 @@ fn traced(alloc: Global, source: &mut MemSource, sink: &mut MemSink) -> Result<S
 #[test]
 fn each_script_gives_the_report_that_was_written_by_hand(rt: HostRuntime) -> Result<(), Fail> {
     let alloc = rt.alloc();
-    for case in &cases::ALL {
-        let mut source = MemSource::new(case.script.to_vec(alloc)?, Vec::new(alloc), 4096);
-        let mut sink = MemSink::new(vec![in alloc; 0; ROOM]?, Vec::new(alloc), 4096);
-        assert_eq!(rt;
-            traced(alloc, &mut source, &mut sink)?,
-            case.status,
-            "{}",
-            case.name
-        );
-        assert_eq!(rt; sink.taken(), case.text, "{}", case.name);
+    let groups = [
+        cases::ALL.as_slice(),
+        hypercall_cases::CALLS.as_slice(),
+        hypercall_cases::REFUSALS.as_slice(),
+    ];
+    for group in groups {
+        for case in group {
+            let mut source = MemSource::new(case.script.to_vec(alloc)?, Vec::new(alloc), 4096);
+            let mut sink = MemSink::new(vec![in alloc; 0; ROOM]?, Vec::new(alloc), 4096);
+            assert_eq!(rt;
+                traced(alloc, &mut source, &mut sink)?,
+                case.status,
+                "{}",
+                case.name
+            );
+            assert_eq!(rt; sink.taken(), case.text, "{}", case.name);
+        }
     }
     Ok(())
 }
