@@ -1,4 +1,5 @@
 pub mod Bounds
+pub mod Requests
 pub mod SameAnswers
 pub mod ServedBlocks
 pub mod Soundness

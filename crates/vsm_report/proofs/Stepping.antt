@@ -28,7 +28,7 @@ use Rattle.guest_script.specs.Within.{IsWithin}
 use Rattle.vsm_report.specs.Acting.{first_partition, opening_vp, opening_vps, is_running, attempt_lines, with_attempt, acted_at}
 use Rattle.vsm_report.specs.Schedule.{after_turns, after_entry, after_line, after_schedule}
 use Rattle.vsm_report.specs.Opening.{opening_masks, opening_words}
-use Rattle.vsm_report.specs.FlatRun.{World, acted, opening_flat, opened, closed, report_of, flat}
+use Rattle.vsm_report.specs.FlatRun.{World, acted, opening_flat, opened, closed, served, report_of, flat}
 use Rattle.vsm_report.specs.Trace.{Kept, Stepped, after_more, made_steps, stepped, opening_shared, stepped_opening, stepped_report, traced}
 use Rattle.vsm_report.proofs.MaskTurns.{length-fold-with_mask}
 use Rattle.vsm_report.proofs.Processors.{did_stop-same, places-set}
@@ -138,10 +138,10 @@ kept-more first k before more same e keeps = record {
 }
 
 -- what processors do in a world by steps, and in one of whole attempts
-abbrev by_steps : ℕ → Program → Stepped → Option Vp → Stepped
+abbrev pub by_steps : ℕ → Program → Stepped → Option Vp → Stepped
 by_steps p program v u = acted_at made_steps (λ (k : Kept). k.state) after_more program p v u
 
-abbrev at_once : PartitionState → ℕ → Program → World → Option Vp → World
+abbrev pub at_once : PartitionState → ℕ → Program → World → Option Vp → World
 at_once first p program w u = acted_at attempted (state_after first) (λ before more. before ++ more) program p w u
 
 module _ (first : PartitionState) (limits : Limits) where
@@ -232,6 +232,11 @@ unfolding closed
 closed-alike s within =
     let first = first_partition s in
     schedule_alike (Alike first s.limits) (stepped s.programs) (acted first s.programs) (acts_alike first s.limits s.programs) s.schedule (stepped_opening s) (opened s) (opened_alike s within.programs)
+
+-- the journal of the flat run is that of the requests that it serves
+pub flat-journal : (s : Script) → (flat s).journal ≡ joined (served s)
+unfolding flat served
+flat-journal s = refl
 
 -- the report of walking a schedule step by step is that of the flat run
 pub traced-flat : (s : Script) → IsWithin s → traced s ≡ flat s
