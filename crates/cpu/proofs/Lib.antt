@@ -8,6 +8,7 @@ pub mod Planned
 pub mod Polls
 pub mod Judged
 pub mod Marking
+pub mod InputWords
 pub mod Rests
 pub mod Steps
 pub mod Turning

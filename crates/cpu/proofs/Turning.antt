@@ -65,7 +65,7 @@ pub record Stepped (from : Origin) (op : Op) (seen : List Event) (part first : �
   pub asks : follow (attempt from op) (answers_of seen first) ≡ Asks s k
   pub makes : Makes old s x new
   pub event : step.event ≡ made s x
-  pub few : length (seen_by seen part first step.event) ≤ first_by part first step.event + 27
+  pub few : length (seen_by seen part first step.event) ≤ first_by part first step.event + 34
   pub more : follow (attempt from op) (answers_of (seen_by seen part first (made s x)) (first_by part first (made s x))) ≡ k x
   pub phase : phase_at (seen_by seen part first step.event) (first_by part first step.event) ≡ new.phase
   pub led : LedBy from op step seen part first step.event
@@ -87,12 +87,12 @@ stepped from u seen part first old new step low le phase way steps =
     let t = turned-asks (follow (attempt from u.op) (answers_of seen first)) old new (StageRest from u.op step.stage) (steps.turned from u.op _ way.rest) in
     let event : step.event ≡ made t.0 t.1 = same-some _ _ (sym steps.event ∙ ap (λ (z : Seat). z.last) t.4.after) in
     let counts : Counts most_steps (suc (length (drop first seen))) (t.2 t.1) = Counts-asks most_steps _ t.0 t.2 _ t.1 t.3 way.counts in
-    let few : suc (length (drop first seen)) ≤ 27 = Counts-most most_steps 27 some-reply _ (t.2 t.1) most_steps-few counts in
+    let few : suc (length (drop first seen)) ≤ 34 = Counts-most most_steps 34 some-reply _ (t.2 t.1) most_steps-few counts in
     let answers : answers_of (seen_by seen part first (made t.0 t.1)) (first_by part first (made t.0 t.1)) ≡ answers_of seen first ++ t.1 ∷ [] = answers-by seen part first (made t.0 t.1) low le ∙ ap (λ z. answers_of seen first ++ z ∷ []) t.4.learns in
     let more : follow (attempt from u.op) (answers_of (seen_by seen part first (made t.0 t.1)) (first_by part first (made t.0 t.1))) ≡ t.2 t.1 =
     rw answers (follow-append (attempt from u.op) (answers_of seen first) t.1 ∙ ap (λ tree. after tree t.1) t.3) in
     let own : length (drop (first_by part first (made t.0 t.1)) (seen_by seen part first (made t.0 t.1))) ≡ suc (length (drop first seen)) = omega (arith, ap length (own-by seen part first (made t.0 t.1) low le), length-append (drop first seen) (made t.0 t.1 ∷ [])) in
-    let room : length (seen_by seen part first (made t.0 t.1)) ≤ first_by part first (made t.0 t.1) + 27 = omega (arith, few, own, length-drop (first_by part first (made t.0 t.1)) (seen_by seen part first (made t.0 t.1))) in
+    let room : length (seen_by seen part first (made t.0 t.1)) ≤ first_by part first (made t.0 t.1) + 34 = omega (arith, few, own, length-drop (first_by part first (made t.0 t.1)) (seen_by seen part first (made t.0 t.1))) in
     let now : new.phase ≡ phase_after (phase_at seen first) t.0 t.1 = ap (λ (z : Seat). z.phase) t.4.after ∙ ap (λ p. phase_after p t.0 t.1) phase in
     let phase_now : phase_at (seen_by seen part first (made t.0 t.1)) (first_by part first (made t.0 t.1)) ≡ new.phase = phase-by seen part first t.0 t.1 low le ∙ sym now in
     let led : LedBy from u.op step seen part first (made t.0 t.1) = record {
@@ -109,7 +109,7 @@ stepped from u seen part first old new step low le phase way steps =
       asks = t.3;
       makes = t.4;
       event = event;
-      few = subst (λ e. length (seen_by seen part first e) ≤ first_by part first e + 27) (sym event) room;
+      few = subst (λ e. length (seen_by seen part first e) ≤ first_by part first e + 34) (sym event) room;
       more = more;
       phase = subst (λ e. phase_at (seen_by seen part first e) (first_by part first e) ≡ new.phase) (sym event) phase_now;
       led = subst (LedBy from u.op step seen part first) (sym event) led;

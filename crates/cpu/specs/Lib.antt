@@ -1,4 +1,5 @@
 pub mod Held
+pub mod Inputs
 pub mod Logs
 pub mod Looks
 pub mod Results

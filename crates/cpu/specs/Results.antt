@@ -3,17 +3,20 @@ use Rattle.std.specs.Prelude.{◌≡◌, ℕ, ◌==◌, Bool, if◌then◌else�
 use Rattle.vsm_core.specs.declared.mark.Grant.{Grant}
 use Rattle.vsm_core.specs.declared.mark.GuestFault.TheVariants.{Undefined}
 use Rattle.vsm_core.specs.declared.mark.What.{What}
+use Rattle.vsm_core.specs.declared.mark.What.TheVariants as whats
 use Rattle.vsm_core.specs.declared.operation.Op.{Op}
 use Rattle.vsm_core.specs.declared.operation.Op.TheVariants.{Set, Get, Load, Spin, Jump, JumpNe, Ack, Eoi}
 use Rattle.vsm_core.specs.Attempt.{is_wanted, wanted_outcome, unwanted_outcome}
+use Rattle.vsm_core.specs.Contexts.{with_context}
 use Rattle.vsm_core.specs.Controllers.{Controllers, with_taken}
 use Rattle.vsm_core.specs.Fills.{Cached}
+use Rattle.vsm_core.specs.Hypercalls.{with_result}
 use Rattle.vsm_core.specs.Outcomes.{Origin, Outcome, Refusal as Refused, outcome_at, faulted, plain, set_outcome, get_outcome, jumped, loaded, passed, spun, note_of, held_outcome, denied_outcome, ack_outcome, eoi_outcome, eom_outcome}
 use Rattle.vsm_core.specs.State.{State, gone_to}
 use Rattle.vsm_core.specs.Switch.{may_call, may_return, may_enter, called, returned}
 use Rattle.vsm_core.specs.Tree.{Tree, Ends}
 use Rattle.cpu.specs.declared.decided.Decided.{Decided}
-use Rattle.cpu.specs.declared.decided.Decided.TheVariants.{Local, Granted, Denied, Fault, Called, Returned, Polled, Eom}
+use Rattle.cpu.specs.declared.decided.Decided.TheVariants.{Local, Granted, Denied, Fault, Called, Returned, Polled, Replied, Eom}
 use Rattle.cpu.specs.declared.decided.Refusal.{Refusal}
 
 -- what an operation comes to that makes no step
@@ -63,6 +66,7 @@ result_of from op (Fault fault) = faulted from fault
 result_of from op Called = switched (may_call from.state) from (called from.state)
 result_of from op (Returned pair) = switched (may_return from.state) from (returned from.state pair)
 result_of from op (Polled found) = polled_outcome from.state (with_taken from.controllers found)
+result_of from op (Replied value context) = outcome_at from (whats.Reply value) (with_result (with_context from.state context) value) []
 result_of from op (Eom slot) = eom_outcome from slot
 
 -- the same, with this done to the cached translations

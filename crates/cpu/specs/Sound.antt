@@ -8,7 +8,7 @@ use Rattle.vtl_state.specs.States.{state_of}
 use Rattle.cpu.specs.declared.processor.Cpu.TheInside.{Inside}
 use Rattle.cpu.specs.Held.{held_of, origin_at}
 use Rattle.cpu.specs.Logs.{standing_of}
-use Rattle.cpu.specs.Stages.{Means, op_of}
+use Rattle.cpu.specs.Stages.{Means, op_of, IsWanting}
 
 abbrev pub view_of : Inside → Vp
 view_of c = record {
@@ -26,6 +26,7 @@ view_of c = record {
   first = c.log.first;
   again = c.log.again;
   spins = c.log.spins;
+  owes = c.owes;
   ended = c.log.ended;
 }
 
@@ -33,6 +34,12 @@ view_of c = record {
 abbrev pub length_at : ℕ → ℕ → Vtl → ℕ
 length_at zero_length one_length Zero = zero_length
 length_at zero_length one_length One = one_length
+
+-- a processor that waits for the reply to its request
+pub record IsOwing (c : Inside) : Type 0 where
+  pub going : c.log.ended ≡ None
+  pub stood : c.log.again ≡ false
+  pub wants : IsWanting c.under
 
 -- there is room for what the budget still allows, and the stage is where the events so far have led
 pub record IsSound (c : Inside) : Type 0 where
@@ -42,14 +49,15 @@ pub record IsSound (c : Inside) : Type 0 where
   pub seen_room : c.log.seen.1 ≡ 64 * c.limits.budget
   pub marks_few : length c.log.marks.0 ≤ c.limits.budget
   pub notes : c.limits.budget ≤ c.controllers.synic.room + length (standing_of c.log.again c.log.marks.0)
-  pub part_few : c.log.part ≤ 27 * length (standing_of c.log.again c.log.marks.0)
+  pub part_few : c.log.part ≤ 34 * length (standing_of c.log.again c.log.marks.0)
   pub part_le : c.log.part ≤ c.log.first
   pub first_few : c.log.first ≤ c.log.part + 13
   pub first_le : c.log.first ≤ length c.log.seen.0
-  pub seen_few : length c.log.seen.0 ≤ c.log.first + 27
+  pub seen_few : length c.log.seen.0 ≤ c.log.first + 34
   pub room : c.log.ended ≡ None → length (standing_of c.log.again c.log.marks.0) < c.limits.budget
   pub running : c.started ≡ true → c.log.ended ≡ None → rip_of (state_of c.bank c.levels) < length_at c.zero_length c.one_length c.levels.active
   pub spins : c.log.ended ≡ None → c.log.spins < spin_limit
+  pub owing : c.owes ≡ true → IsOwing c
   pub waits : c.started ≡ false → c.under ≡ None
   pub fresh : c.started ≡ false → c.log.again ≡ false
   pub means : Means (origin_at c.limits.pages c.vp.0 c.bank c.levels c.controllers) c.under c.log.seen.0 c.log.part c.log.first

@@ -7,6 +7,7 @@ use Rattle.vsm_core.specs.declared.operation.Op.{Op}
 use Rattle.vsm_core.specs.Access.{Decision}
 use Rattle.vsm_core.specs.Attempt.{attempt, leaves, left_with, most_steps}
 use Rattle.vsm_core.specs.Fills.{Cached}
+use Rattle.vsm_core.specs.Hypercalls.{call_of}
 use Rattle.vsm_core.specs.Outcomes.{Origin, Outcome}
 use Rattle.vsm_core.specs.Seat.{Seat}
 use Rattle.vsm_core.specs.Steps.{IsIn, learned}
@@ -14,8 +15,11 @@ use Rattle.vsm_core.specs.Tree.{Tree, Ends, Asks, then_, follow, Counts}
 use Rattle.vsm_core.specs.Turns.{Turned}
 use Rattle.access_path.specs.declared.place.Place.TheVariants.{Over}
 use Rattle.access_path.specs.Rest.{Rest, IsAt, Serves}
+use Rattle.cpu.specs.Inputs.{InputRest, InputIs, InputServes, SpotAt, asks_for, part_call}
+use Rattle.cpu.specs.declared.input.Spot.{Spot}
+use Rattle.cpu.specs.declared.input.Spot.TheVariants as spots
 use Rattle.cpu.specs.declared.stage.Stage.{Stage}
-use Rattle.cpu.specs.declared.stage.Stage.TheVariants.{Reach, Take, Judge, Touch, Leave, End}
+use Rattle.cpu.specs.declared.stage.Stage.TheVariants.{Reach, Take, Judge, Touch, Input, Want, Leave, End}
 use Rattle.cpu.specs.declared.stage.Under.{Under}
 use Rattle.cpu.specs.declared.stage.StageStep.{StageStep}
 use Rattle.cpu.specs.declared.task.Case.{Case}
@@ -36,6 +40,8 @@ StageRest from op (Reach path) tree = (t : Tree Decision) × Rest path.aim path.
 StageRest from op (Take taken) tree = tree ≡ taking_rest from taken
 StageRest from op (Judge case) tree = (does : List Cached) × (tree ≡ case_rest from does case)
 StageRest from op (Touch gate task) tree = (does : List Cached) × (tree ≡ gate_rest gate (task_rest from op does task))
+StageRest from op (Input input) tree = InputRest from input tree
+StageRest from op (Want asked) tree = tree ≡ asks_for from asked
 StageRest from op (Leave decided) tree = LeavesAs tree (result_of from op decided)
 StageRest from op (End decided) tree = EndsAs tree (result_of from op decided)
 
@@ -45,6 +51,8 @@ StageIs pages number (Reach path) = (path.aim.pages ≡ pages) × (path.place �
 StageIs pages number (Take taken) = taken.count < 8
 StageIs pages number (Judge case) = ⊥
 StageIs pages number (Touch gate task) = TaskIs pages number task
+StageIs pages number (Input input) = InputIs pages input
+StageIs pages number (Want asked) = Unit {0}
 StageIs pages number (Leave decided) = Unit {0}
 StageIs pages number (End decided) = Unit {0}
 
@@ -59,6 +67,8 @@ StageAt (Reach path) phase = IsAt path.place phase
 StageAt (Take taken) phase = phase ≡ Idle
 StageAt (Judge case) phase = CaseAt case phase
 StageAt (Touch gate task) phase = GateAt gate phase
+StageAt (Input input) phase = SpotAt input.spot phase
+StageAt (Want asked) phase = phase ≡ Idle
 StageAt (Leave decided) phase = IsIn phase
 StageAt (End decided) phase = phase ≡ Idle
 
@@ -71,10 +81,12 @@ TidyIn part first (In generation) = part ≡ first
 abbrev pub IsTidy : ℕ → ℕ → Stage → Phase → Type 0
 IsTidy part first (Reach path) phase = TidyIn part first phase
 IsTidy part first (Touch gate task) phase = TidyIn part first phase
+IsTidy part first (Input input) phase = TidyIn part first phase
 IsTidy part first _ phase = part ≡ first
 
 -- a stage from which a step is made
 abbrev pub is_going : Stage → Bool
+is_going (Want asked) = false
 is_going (End decided) = false
 is_going _ = true
 
@@ -89,6 +101,8 @@ StageServes (Reach path) seat = Serves path.aim path.place seat × (path.place �
 StageServes (Take taken) seat = (seat.phase ≡ Idle) × (taken.count < 8) × (seat.vp < seat.limits.vps)
 StageServes (Judge case) seat = ⊥
 StageServes (Touch gate task) seat = TaskServes gate task seat
+StageServes (Input input) seat = InputServes input seat
+StageServes (Want asked) seat = ⊥
 StageServes (Leave decided) seat = IsIn seat.phase × (seat.vp < seat.limits.vps)
 StageServes (End decided) seat = ⊥
 
@@ -102,16 +116,23 @@ IsReached _ = ⊥
 -- an access that isn't checked yet goes on
 abbrev pub IsEntering : Stage → Type 0
 IsEntering (Touch gate task) = Unit {0}
+IsEntering (Input input) = Unit {0}
 IsEntering _ = ⊥
 
 abbrev pub GateGoes : Gate → Stage → Type 0
 GateGoes Inside next = Unit {0}
 GateGoes _ next = IsEntering next
 
+abbrev pub SpotGoes : Spot → Stage → Type 0
+SpotGoes spots.Outside next = IsEntering next
+SpotGoes spots.Entered next = IsEntering next
+SpotGoes _ next = Unit {0}
+
 -- where a step can lead from a stage
 abbrev pub Goes : Stage → Stage → Type 0
 Goes (Reach path) next = IsReached next
 Goes (Touch gate task) next = GateGoes gate next
+Goes (Input input) next = SpotGoes input.spot next
 Goes _ next = Unit {0}
 
 -- the step from a stage, as its port saw it, and where it led
@@ -134,6 +155,20 @@ pub record IsUnderWay (from : Origin) (u : Under) (seen : List Event) (part firs
   pub counts : Counts most_steps (length (drop first seen)) (follow (attempt from u.op) (map learned (drop first seen)))
   pub phase : StageAt u.stage (phase_at seen first)
   pub tidy : IsTidy part first u.stage (phase_at seen first)
+
+-- it asks something of the partition
+abbrev pub IsWant : Stage → Type 0
+IsWant (Want asked) = Unit {0}
+IsWant _ = ⊥
+
+-- it asks for this call, with these words of its input
+abbrev pub WantsCall : Stage → ℕ → List ℕ → Type 0
+WantsCall (Want asked) code words = part_call asked ≡ call_of code words
+WantsCall _ code words = ⊥
+
+abbrev pub IsWanting : Option Under → Type 0
+IsWanting None = ⊥
+IsWanting (Some u) = IsWant u.stage
 
 -- what is under way is where the events so far have led
 abbrev pub Means : Origin → Option Under → List Event → ℕ → ℕ → Type 0

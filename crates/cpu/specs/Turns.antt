@@ -1,5 +1,5 @@
 -- What one turn of a processor is.
-use Rattle.std.specs.Prelude.{◌≡◌, ℕ, ◌==◌, if◌then◌else◌, Option, Some, None, IfSome, List, drop, length, reverse}
+use Rattle.std.specs.Prelude.{◌≡◌, ℕ, ◌==◌, Bool, true, false, if◌then◌else◌, Option, Some, None, IfSome, List, drop, length, reverse}
 use Rattle.vsm_core.specs.declared.event.Event.{Event}
 use Rattle.vsm_core.specs.declared.event.Phase.{Phase}
 use Rattle.vsm_core.specs.declared.event.PendingWord.TheVariants.{Start}
@@ -54,6 +54,11 @@ abbrev pub AcceptsBy : Tree Outcome → Reply → Vp → Vp → CpuTurn → Type
 AcceptsBy (Wants q k) reply old new turn =
     (o : Outcome) × (k reply ≡ Ends o) × (new ≡ settled (Ends o) (answered old)) × (turn ≡ after_mark o.what new.ended)
 AcceptsBy _ reply old new turn = ⊥
+
+-- a processor waits for a reply exactly where its turn handed out a request
+abbrev pub OwesBy : CpuTurn → Bool → Type 0
+OwesBy (turns.Wants q) owes = owes ≡ true
+OwesBy _ owes = owes ≡ false
 
 -- a processor that hasn't started, after it took this from its start word: nothing changes where it was 0, and a start
 -- can't be served yet, so that the processor ends as at an undefined operation

@@ -16,6 +16,7 @@ ghost use Rattle.vsm_core.specs.Controllers.{Controllers as Contents};
 
 use crate::controllers::Controllers;
 use crate::decided::Decided;
+use crate::hypercalls::hypercalling;
 use crate::plans::{message_page, nothing};
 use crate::registers::operand;
 use crate::stage::{Stage, Under};
@@ -190,6 +191,7 @@ pub fn begin(
         }
         Op::Exec(gva) => reaching(aim_at(pages, bank, levels, Access::Execute, false, gva, 0)),
         Op::Spin(gva, _) => reaching(aim_at(pages, bank, levels, Access::Read, true, gva, 0)),
+        Op::Hypercall => hypercalling(pages, bank, levels),
         Op::VtlCall => calling(pages, vp, bank, levels),
         Op::VtlReturn => returning(pages, bank, levels),
         Op::Poll => Stage::Take {

@@ -1,5 +1,5 @@
 // How an attempt was decided.
-use vsm_base::{Access, Mask, Page};
+use vsm_base::{Access, Mask, Page, Vtl};
 use vsm_core::{Grant, GuestFault};
 
 /// What was denied: the page, its mask, the generation that was checked, the kind of access, the address of the operation
@@ -29,6 +29,8 @@ pub enum Decided {
     Returned(Option<(u64, u64)>),
     /// A poll has taken these words.
     Polled([u64; 8]),
+    /// A hypercall was refused at once or served: its result value, and the context of the level that it has enabled.
+    Replied(u64, Option<(Vtl, [u64; 28])>),
     /// A message is ended. The message slot has this first word, where it was read.
     Eom(Option<u64>),
 }

@@ -10,6 +10,7 @@ ghost use Rattle.cpu.specs.Results.{again_of, local_outcome, granted_of, result_
 
 use crate::controllers::Controllers;
 use crate::decided::Decided;
+use crate::hypercalls::replied;
 use crate::interrupts::{ack, end_interrupt, poll};
 use crate::messages::{deny, end_message};
 use crate::registers::{go_to, may_name};
@@ -162,6 +163,7 @@ pub fn finish(
         Decided::Called => call_on(bank, levels, pages),
         Decided::Returned(pair) => return_on(bank, levels, pair),
         Decided::Polled(found) => poll(bank, levels, controllers, found),
+        Decided::Replied(value, context) => replied(bank, levels, value, &context),
         Decided::Eom(slot) => end_message(bank, levels, controllers, slot),
     }
 }

@@ -8,26 +8,30 @@ ghost use Rattle.vsm_core.specs.Tree.{Ends};
 ghost use Rattle.cpu.specs.Sound.{length_at};
 ghost use Rattle.vtl_state.specs.States.{state_of};
 ghost use Rattle.cpu.specs.Results.{result_of};
-ghost use Rattle.cpu.specs.Turns.{Keeps, VpServes, TurnsBy, Wakes, answer_at, after_mark, phase_at};
+ghost use Rattle.cpu.specs.Turns.{Keeps, VpServes, TurnsBy, AcceptsBy, OwesBy, Wakes, answer_at, after_mark, phase_at};
 
 use crate::beginning::{begin, begun};
 use crate::controllers::Controllers;
 use crate::cpu_turn::{CpuTurn, after_mark};
 use crate::decided::Decided;
 use crate::endings::{ending, ending_on, opening_ending};
+use crate::hypercalls::{own_context, request};
 use crate::judging::judged;
 use crate::log::Log;
 use crate::operations::{again, finish};
 use crate::stage::{Stage, Under, is_going};
 use crate::stepping::step;
 use fabric::Port;
+use hyper_abi::ResultValue;
 use register_file::Bank;
 use secure_intr::Pending;
 use std::alloc::Global;
 use std::marker::Model;
 use synic::Synic;
 use vsm_base::{Items, Limits, Memory, Name, Reserved, VpIndex, Vtl};
-use vsm_core::{Ending, Event, Grant, GuestFault, Mark, Op, PendingWord, Phase, Program, What};
+use vsm_core::{
+    Ending, Event, Grant, GuestFault, Mark, Op, PendingWord, Phase, Program, Reply, What,
+};
 use vtl_state::{Levels, word_of};
 
 /// A virtual processor: its registers, what its interrupt controllers hold, the operation that it is at, its marks and its
@@ -43,6 +47,7 @@ pub struct Cpu {
     levels: Levels,
     controllers: Controllers,
     under: Option<Under>,
+    owes: bool,
     log: Log,
 }
 
@@ -124,6 +129,7 @@ impl Cpu {
                 synic,
             },
             under: None,
+            owes: false,
             log,
         })
     }
@@ -131,6 +137,7 @@ impl Cpu {
     /// Leaves the mark that stays, where an attempt has ended.
     fn mark(&mut self, op: Op, decided: Decided) -> CpuTurn
         requires going { self.old.ended ≡ None }
+        requires answered { self.old.owes ≡ false }
         requires fresh { self.old.again ≡ false }
         requires tidy { self.old.part ≡ self.old.first }
         requires idle { phase_at self.old.seen self.old.first ≡ Phase.Idle }
@@ -141,6 +148,7 @@ impl Cpu {
         ensures phase { phase_at self.new.seen self.new.first ≡ Phase.Idle }
         ensures same { IsSameProcessor self.old self.new }
         ensures kept { Keeps self.old self.new }
+        ensures owes { OwesBy result self.new.owes }
         ensures within { length self.new.marks ≤ self.old.limits.budget }
     {
         let level = self.levels.active();
@@ -175,6 +183,7 @@ impl Cpu {
     #[tactic(auto, unfolding(vsm_core::specs::Processor::spin_limit))]
     fn mark_again(&mut self, op: Op, grant: Grant) -> CpuTurn
         requires going { self.old.ended ≡ None }
+        requires answered { self.old.owes ≡ false }
         requires fresh { self.old.again ≡ false }
         requires tidy { self.old.part ≡ self.old.first }
         requires idle { phase_at self.old.seen self.old.first ≡ Phase.Idle }
@@ -188,6 +197,7 @@ impl Cpu {
         ensures phase { phase_at self.new.seen self.new.first ≡ Phase.Idle }
         ensures same { IsSameProcessor self.old self.new }
         ensures kept { Keeps self.old self.new }
+        ensures owes { OwesBy result self.new.owes }
         ensures within { length self.new.marks ≤ self.old.limits.budget }
     {
         let level = self.levels.active();
@@ -220,6 +230,7 @@ impl Cpu {
     /// Leaves the mark, if the attempt has come to its end.
     fn settle(&mut self) -> CpuTurn
         requires going { self.old.ended ≡ None }
+        requires answered { self.old.owes ≡ false }
         requires fresh { self.old.again ≡ false }
         requires under { self.old.op ≢ None }
         ensures new { self.new ≡ settled (rest_of self.old self.old.op) self.old }
@@ -228,6 +239,7 @@ impl Cpu {
         ensures phase { phase_at self.new.seen self.new.first ≡ phase_at self.old.seen self.old.first }
         ensures same { IsSameProcessor self.old self.new }
         ensures kept { Keeps self.old self.new }
+        ensures owes { OwesBy result self.new.owes }
         ensures within { length self.new.marks ≤ self.old.limits.budget }
     {
         let Some(under) = self.under else {
@@ -246,6 +258,7 @@ impl Cpu {
     fn advance<P: Port>(&mut self, port: &mut P, program: &Program) -> CpuTurn
         requires started { self.old.started ≡ true }
         requires going { self.old.ended ≡ None }
+        requires answered { self.old.owes ≡ false }
         requires zero { length program.now.zero ≡ self.old.zero_length }
         requires one { length program.now.one ≡ self.old.one_length }
         requires same { IfSome self.old.op (λ op. operation_at program.now self.old.state ≡ Some op) }
@@ -256,6 +269,7 @@ impl Cpu {
         ensures short { All IsShort (new_marks self.old self.new) }
         ensures same { IsSameProcessor self.old self.new }
         ensures kept { IfSome self.new.op (λ op. operation_at program.now self.new.state ≡ Some op) }
+        ensures owes { OwesBy result self.new.owes }
         ensures within { length self.new.marks ≤ self.old.limits.budget }
     {
         let ops = operations(program, &self.levels);
@@ -270,6 +284,10 @@ impl Cpu {
         );
         self.log.stand();
         self.under = Some(under);
+        if let Stage::Want { asked } = under.stage {
+            self.owes = true;
+            return CpuTurn::Wants(request(self.vp, &self.levels, &asked));
+        }
         if !is_going(&under.stage) {
             return self.settle();
         }
@@ -294,6 +312,7 @@ impl Cpu {
     fn wake<P: Port>(&mut self, port: &mut P) -> CpuTurn
         requires waits { self.old.started ≡ false }
         requires going { self.old.ended ≡ None }
+        requires answered { self.old.owes ≡ false }
         requires serves { VpServes self.old (P.seat port.old) }
         ensures woken { Wakes self.old (P.seat port.old) self.new (P.seat port.new) result }
         ensures serves { VpServes self.new (P.seat port.new) }
@@ -301,6 +320,7 @@ impl Cpu {
         ensures short { All IsShort (new_marks self.old self.new) }
         ensures same { IsSameProcessor self.old self.new }
         ensures idle { self.new.op ≡ None }
+        ensures owes { OwesBy result self.new.owes }
         ensures within { length self.new.marks ≤ self.old.limits.budget }
     {
         let level = self.levels.active();
@@ -323,8 +343,10 @@ impl Cpu {
     ///
     /// A processor that has started makes the next step of its attempt, which is of the operation where the active
     /// level's program stands, and leaves a mark where the attempt has then come to its end. An attempt that has no
-    /// step left makes none. A mark has at most 13 events, and at most 12 where the access was denied without level 1;
-    /// where level 1 is told of it, at most 15 more. An end of message has at most 17.
+    /// step left makes none, nor does one that asks something of the partition: that request is what the turn answers,
+    /// and the processor then needs the reply. A mark has at most 13 events, and at most 12 where the access was denied
+    /// without level 1; where level 1 is told of it, at most 15 more. An end of message has at most 17, a hypercall at
+    /// most 34.
     ///
     /// A denied access of level 0 ends a processor without level 1. Else level 1 is told by one note, whose message goes to
     /// the message slot or waits, and is entered, before the access is left (TLFS, Virtual Secure Mode, Memory Access
@@ -339,10 +361,15 @@ impl Cpu {
     /// A processor that hasn't started takes from its start word. Where that was 0 nothing of the processor changes,
     /// and the event isn't kept. Starts can't be served yet: at anything else it ends as at an undefined operation.
     ///
-    /// It needs a processor without an ending, the programs that it was made with, and its own port, in the phase in
+    /// A hypercall is undefined above privilege level 0. What refuses its input value or the place of its input (see
+    /// `hyper_abi::admit`) refuses it at once, and then RAX has the result and all other registers but Rip stay. Else the
+    /// header is read from memory, unless it is fast; level 0 needs a page that it may read (TLFS, Hypercall Interface).
+    ///
+    /// It needs a processor without an ending that waits for no reply, the programs that it was made with, and its own port, in the phase in
     /// which its last turn left it. All this is this project's own.
     pub fn turn<P: Port>(&mut self, port: &mut P, program: &Program) -> CpuTurn
         requires going { self.old.ended ≡ None }
+        requires answered { self.old.owes ≡ false }
         requires zero { length program.now.zero ≡ self.old.zero_length }
         requires one { length program.now.one ≡ self.old.one_length }
         requires same { IfSome self.old.op (λ op. operation_at program.now self.old.state ≡ Some op) }
@@ -354,6 +381,7 @@ impl Cpu {
         ensures short { All IsShort (new_marks self.old self.new) }
         ensures same { IsSameProcessor self.old self.new }
         ensures kept { IfSome self.new.op (λ op. operation_at program.now self.new.state ≡ Some op) }
+        ensures owes { OwesBy result self.new.owes }
         ensures within { length self.new.marks ≤ self.old.limits.budget }
     {
         if self.started {
@@ -363,13 +391,41 @@ impl Cpu {
         }
     }
 
-    /// The processor's number. The attempt under way has at most 27 events.
+    /// Takes the reply to the request that the last turn answered. The attempt comes to its end by it: RAX has the result,
+    /// and where the reply brings a context, level 1 is enabled with it (TLFS, HvCallEnableVpVtl). All other registers but
+    /// Rip stay. It makes no step and takes no memory.
+    ///
+    /// It needs a processor that waits for a reply, and fewer than 4096 elements done.
+    pub fn accept(&mut self, reply: Reply) -> CpuTurn
+        requires owes { self.old.owes ≡ true }
+        requires done { reply.done < 4096 }
+        ensures accepted { AcceptsBy (rest_of self.old self.old.op) reply self.old self.new result }
+        ensures rests { self.new.first ≡ length self.new.seen }
+        ensures seen { self.new.seen ≡ self.old.seen }
+        ensures short { All IsShort (new_marks self.old self.new) }
+        ensures same { IsSameProcessor self.old self.new }
+        ensures idle { self.new.op ≡ None }
+        ensures owes { self.new.owes ≡ false }
+        ensures within { length self.new.marks ≤ self.old.limits.budget }
+    {
+        let Some(under) = self.under else {
+            unreachable!()
+        };
+        let Under { op, .. } = under;
+        let status = reply.status;
+        let done = reply.done;
+        let value = ResultValue { status, done }.bits();
+        self.owes = false;
+        self.mark(op, Decided::Replied(value, own_context(&reply)))
+    }
+
+    /// The processor's number. The attempt under way has at most 34 events.
     pub fn vp(&self) -> VpIndex
         ensures number { result.0 ≡ self.now.number }
         ensures below { self.now.number < self.now.limits.vps }
         ensures part { self.now.part ≤ self.now.first }
         ensures first { self.now.first ≤ length self.now.seen }
-        ensures few { length self.now.seen ≤ self.now.first + 27 }
+        ensures few { length self.now.seen ≤ self.now.first + 34 }
     {
         self.vp
     }

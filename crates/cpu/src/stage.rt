@@ -3,6 +3,7 @@ ghost use Rattle.std.specs.Prelude.{◌≡◌};
 ghost use Rattle.cpu.specs.Stages.{is_going as is_going_lem};
 
 use crate::decided::Decided;
+use crate::input::{Asked, Input};
 use crate::task::{Case, Gate, Taken, Task};
 use access_path::Path;
 use vsm_core::{Event, Op};
@@ -18,6 +19,10 @@ pub enum Stage {
     Judge { case: Case },
     /// It touches a few memory words in an access of their own, or in the one that was denied.
     Touch { gate: Gate, task: Task },
+    /// A hypercall reads its input.
+    Input { input: Input },
+    /// A hypercall asks this of the partition; no step is made from here, and it goes on by the reply alone.
+    Want { asked: Asked },
     /// It was decided, and the leave of its access comes next.
     Leave { decided: Decided },
     /// It has no step left.
@@ -42,5 +47,5 @@ pub struct StageStep {
 pub fn is_going(stage: &Stage) -> bool
     ensures { result ≡ is_going_lem stage.now }
 {
-    !matches!(stage, Stage::End { .. })
+    !matches!(stage, Stage::Want { .. } | Stage::End { .. })
 }

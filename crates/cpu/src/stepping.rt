@@ -10,6 +10,7 @@ ghost use Rattle.cpu.specs.Results.{granted_of};
 ghost use Rattle.cpu.specs.Stages.{StageRest, StageMay, StageAt, StageServes, StageSteps, IsReached};
 
 use crate::decided::{Decided, Refusal};
+use crate::reading::read_input;
 use crate::stage::{Stage, StageStep};
 use crate::taking::take;
 use crate::task::Case;
@@ -83,8 +84,10 @@ pub fn step<P: Port>(stage: Stage, port: &mut P) -> StageStep
         Stage::Reach { path } => reach(path, port),
         Stage::Take { taken } => take(taken, port),
         Stage::Touch { gate, task } => touch(gate, task, port),
+        Stage::Input { input } => read_input(input, port),
         Stage::Leave { decided } => leave(decided, port),
         Stage::Judge { .. } => unreachable!(),
+        Stage::Want { .. } => unreachable!(),
         Stage::End { .. } => unreachable!(),
     }
 }

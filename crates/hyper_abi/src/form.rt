@@ -1,7 +1,7 @@
 // The calls there are.
 ghost use Rattle.std.specs.Prelude.{◌≡◌, option_map};
 ghost use Rattle.vsm_core.specs.Calls.{row_of};
-ghost use Rattle.hyper_abi.specs.Told.{row_from};
+ghost use Rattle.hyper_abi.specs.Told.{row_from, row_for};
 
 /// The form of a call's input and output (TLFS, Hypercall Interface).
 #[derive(Clone, Copy, Debug, PartialEq, Eq)]
@@ -20,31 +20,62 @@ pub struct CallForm {
     pub output: u16,
 }
 
-/// The call of this code: 0x000D is HvCallEnablePartitionVtl and 0x000F is HvCallEnableVpVtl, neither of them a rep call
-/// (TLFS, Virtual Secure Mode). That there are no other calls is this project's own.
+/// A call that there is.
+#[derive(Clone, Copy, Debug, PartialEq, Eq)]
+pub enum Call {
+    /// HvCallEnablePartitionVtl.
+    EnablePartitionVtl,
+    /// HvCallEnableVpVtl.
+    EnableVpVtl,
+}
+
+impl Call {
+    /// The call of this code: 0x000D is HvCallEnablePartitionVtl and 0x000F is HvCallEnableVpVtl (TLFS, Virtual Secure
+    /// Mode). That there are no other calls is this project's own.
+    ///
+    /// `None` exactly where no call has the code.
+    #[tactic(auto, unfolding(vsm_core::specs::Calls::row_of, vsm_core::specs::Calls::rows))]
+    pub fn of(code: u16) -> Option<Call>
+        ensures { option_map row_for result ≡ row_of code }
+    {
+        match code {
+            0x000D => Some(Call::EnablePartitionVtl),
+            0x000F => Some(Call::EnableVpVtl),
+            _ => None,
+        }
+    }
+
+    /// The form of its input. Neither of the calls that there are is a rep call.
+    pub fn form(self) -> CallForm
+        ensures { row_from result ≡ row_for self }
+    {
+        match self {
+            Call::EnablePartitionVtl => CallForm {
+                code: 0x000D,
+                rep: false,
+                fast: true,
+                header: 16,
+                element: 0,
+                output: 0,
+            },
+            Call::EnableVpVtl => CallForm {
+                code: 0x000F,
+                rep: false,
+                fast: false,
+                header: 240,
+                element: 0,
+                output: 0,
+            },
+        }
+    }
+}
+
+/// The form of the call of this code.
 ///
 /// `None` exactly where no call has the code.
-#[tactic(auto, unfolding(vsm_core::specs::Calls::row_of, vsm_core::specs::Calls::rows))]
 pub fn form_of(code: u16) -> Option<CallForm>
     ensures { option_map row_from result ≡ row_of code }
 {
-    match code {
-        0x000D => Some(CallForm {
-            code,
-            rep: false,
-            fast: true,
-            header: 16,
-            element: 0,
-            output: 0,
-        }),
-        0x000F => Some(CallForm {
-            code,
-            rep: false,
-            fast: false,
-            header: 240,
-            element: 0,
-            output: 0,
-        }),
-        _ => None,
-    }
+    let call = Call::of(code)?;
+    Some(call.form())
 }

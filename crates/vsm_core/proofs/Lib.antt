@@ -1,4 +1,5 @@
 pub mod Bounds
+pub mod Checks
 pub mod Requests
 pub mod SameAnswers
 pub mod ServedBlocks

@@ -1,0 +1,143 @@
+// The beginning of a hypercall, what it asks of the partition, and what the reply does.
+ghost use Rattle.std.specs.Prelude.{◌≡◌, ◌^◌, ◌/◌, ◌<◌, ◌∷◌, [], ℕ, Some, true, false};
+ghost use Rattle.vsm_core.specs.Attempt.{hypercall_tree};
+ghost use Rattle.vsm_core.specs.Contexts.{with_context};
+ghost use Rattle.vsm_core.specs.Controllers.{Controllers as Contents};
+ghost use Rattle.vsm_core.specs.Hypercalls.{call_of, own_context as own_context_lem, with_result};
+ghost use Rattle.vsm_core.specs.Outcomes.{Origin};
+ghost use Rattle.vsm_core.specs.State.{word_of as word_of_lem};
+ghost use Rattle.vsm_core.specs.declared.event.Phase.TheVariants.{Idle};
+ghost use Rattle.vsm_core.specs.declared.operation.Op.TheVariants.{Hypercall};
+ghost use Rattle.vtl_state.specs.States.{state_of};
+ghost use Rattle.hyper_abi.specs.Told.{row_for};
+ghost use Rattle.cpu.specs.Held.{origin_with};
+ghost use Rattle.cpu.specs.Inputs.{part_call, request_for, opening_input};
+ghost use Rattle.cpu.specs.Stages.{StageRest, StageIs, StageAt, IsTaking, WantsCall};
+
+use crate::decided::Decided;
+use crate::input::{Asked, Input, Spot};
+use crate::stage::Stage;
+use hyper_abi::{Admission, Call, ResultValue, admit};
+use register_file::{Bank, Context};
+use vsm_base::{HvStatus, Name, Page, VpIndex, Vtl};
+use vsm_core::{GuestFault, PartCall, Reply, Request, What};
+use vtl_state::{Levels, go_on, privilege_of, put_legal, word_of};
+
+/// What a fast call asks for.
+fn fast_asked(call: Call, first: u64, second: u64) -> Asked
+    requires { (row_for call).may_be_fast ≡ true }
+    ensures { part_call result ≡ call_of (row_for call).code (first ∷ second ∷ []) }
+{
+    match call {
+        Call::EnablePartitionVtl => Asked::EnablePartition([first, second]),
+        Call::EnableVpVtl => unreachable!(),
+    }
+}
+
+/// The first stage of a call that isn't refused at once.
+fn admitted(bank: &Bank, levels: &Levels, address: u64, admission: Admission) -> Stage
+    requires page { admission.fast ≡ false → address / 4096 < 2 ^ 32 }
+    requires may_be_fast { admission.fast ≡ true → (row_for admission.call).may_be_fast ≡ true }
+    ensures fast { admission.fast ≡ true → WantsCall result (row_for admission.call).code (address ∷ word_of_lem (state_of bank.now levels.now) Name.R8 ∷ []) }
+    ensures memory { admission.fast ≡ false → result ≡ Stage.Input (opening_input admission.call levels.now.active address) }
+{
+    let Admission { call, fast } = admission;
+    if fast {
+        let second = word_of(bank, levels, Name::R8);
+        return Stage::Want {
+            asked: fast_asked(call, address, second),
+        };
+    }
+    Stage::Input {
+        input: Input {
+            call,
+            level: levels.active(),
+            address,
+            page: Page((address / 4096) as u32),
+            spot: Spot::Outside,
+            words: [0; 30],
+            done: 0,
+        },
+    }
+}
+
+/// The first stage of a hypercall: it is made at privilege level 0, and what refuses it at once refuses it here.
+pub fn hypercalling(pages: u32, bank: &Bank, levels: &Levels) -> Stage
+    ensures rest { (number : ℕ) (held : Contents) → StageRest (origin_with pages number bank.now levels.now held) Hypercall result (hypercall_tree (origin_with pages number bank.now levels.now held)) }
+    ensures is { (number : ℕ) → StageIs pages number result }
+    ensures idle { StageAt result Idle }
+    ensures no_poll { ¬ IsTaking result }
+{
+    if privilege_of(bank, levels) != 0 {
+        return Stage::End {
+            decided: Decided::Fault(GuestFault::Undefined),
+        };
+    }
+    let value = word_of(bank, levels, Name::Rcx);
+    let address = word_of(bank, levels, Name::Rdx);
+    match admit(pages, value, address) {
+        Ok(admission) => admitted(bank, levels, address, admission),
+        Err(status) => Stage::End {
+            decided: Decided::Replied(ResultValue { status, done: 0 }.bits(), None),
+        },
+    }
+}
+
+/// What a processor asks of the partition.
+pub fn request(vp: VpIndex, levels: &Levels, asked: &Asked) -> Request
+    ensures { (from : Origin) → from.number ≡ vp.0 → from.state.active ≡ levels.now.active → result ≡ request_for from asked.now }
+{
+    let call = match asked {
+        Asked::EnablePartition(words) => PartCall::EnablePartition(*words),
+        Asked::EnableVp(words) => PartCall::EnableVp(*words),
+    };
+    Request {
+        by: vp,
+        level: levels.active(),
+        call,
+    }
+}
+
+/// The context that a reply brings for a level which its call enables.
+pub fn own_context(reply: &Reply) -> Option<(Vtl, [u64; 28])>
+    ensures { result ≡ own_context_lem reply.now.context }
+{
+    match &reply.context {
+        Some((level, words, _)) => Some((*level, *words)),
+        None => None,
+    }
+}
+
+/// A level gets its context, unless it is enabled already or the context has a bit that must be zero.
+fn give_context(bank: &mut Bank, levels: &mut Levels, level: Vtl, words: &[u64; 28])
+    ensures { state_of bank.new levels.new ≡ with_context (state_of bank.old levels.old) (Some (level, words.now)) }
+{
+    if let Ok(context) = Context::read(words) {
+        let _ = levels.enable(bank, level, &context);
+    }
+}
+
+/// The same where there may be a context.
+fn take_context(bank: &mut Bank, levels: &mut Levels, context: &Option<(Vtl, [u64; 28])>)
+    ensures { state_of bank.new levels.new ≡ with_context (state_of bank.old levels.old) context.now }
+{
+    if let Some((level, words)) = context {
+        give_context(bank, levels, *level, words);
+    }
+}
+
+/// A call was refused or served: its result value goes to RAX, and a context to the level that was enabled.
+pub fn replied(
+    bank: &mut Bank,
+    levels: &mut Levels,
+    value: u64,
+    context: &Option<(Vtl, [u64; 28])>,
+) -> What
+    ensures what { result ≡ What.Reply value }
+    ensures state { state_of bank.new levels.new ≡ with_result (with_context (state_of bank.old levels.old) context.now) value }
+{
+    take_context(bank, levels, context);
+    put_legal(bank, levels, Name::Rax, u128::from(value));
+    go_on(bank, levels);
+    What::Reply(value)
+}
