@@ -6,7 +6,7 @@ ghost use Rattle.protection_map.specs.JournalView.{empty_journal, with_entry, wi
 use crate::tables::Tables;
 use std::alloc::Global;
 use std::marker::Model;
-use vsm_base::{HvStatus, Limits, Mask, Memory, Page, Reserved};
+use vsm_base::{HvStatus, Items, Limits, Mask, Memory, Page, Reserved};
 use vsm_core::Entry;
 
 /// The journal of a partition: what became of its requests, the oldest entry first, over the masks that its pages had
@@ -90,6 +90,18 @@ impl Journal {
         ensures { result.now ≡ self.now.entries }
     {
         self.entries.as_slice()
+    }
+
+    /// The entries, the oldest first, where the journal is done with.
+    pub fn into_entries(self) -> Items<Entry>
+        ensures { result ≡ self.entries }
+    {
+        let Journal {
+            opening: _,
+            tables: _,
+            entries,
+        } = self;
+        entries.into_items()
     }
 
     /// The mask of each page, by its number: the opening masks, with each ask applied in its turn.

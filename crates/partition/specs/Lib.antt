@@ -1,0 +1,4 @@
+pub mod PartView
+pub mod Plans
+pub mod Sound
+pub mod Turns

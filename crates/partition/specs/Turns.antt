@@ -1,0 +1,75 @@
+-- One turn of a partition.
+use Rattle.std.specs.Prelude.{◌≡◌, ◌⊎◌, true, false, Option, Some, None, List, [], ◌∷◌, length}
+use Rattle.vsm_base.specs.declared.places.VpIndex.{VpIndex}
+use Rattle.vsm_core.specs.Stand.{Stand, Serves}
+use Rattle.vsm_core.specs.declared.event.Event.{Event}
+use Rattle.vsm_core.specs.declared.event.Event.TheVariants as events
+use Rattle.vsm_core.specs.declared.event.PendingWord.TheVariants as words
+use Rattle.vsm_core.specs.declared.journal.Entry.{Entry}
+use Rattle.vsm_core.specs.declared.journal.Entry.TheVariants as entries
+use Rattle.vsm_core.specs.declared.request.Reply.{Reply}
+use Rattle.protection_map.specs.JournalView.{with_entry}
+use Rattle.partition.specs.PartView.{Doing, PartView}
+use Rattle.partition.specs.declared.turn.PartTurn.{PartTurn}
+use Rattle.partition.specs.declared.turn.PartTurn.TheVariants.{Moved, Busy, Done}
+
+-- the step on the shared words with which an entry is added
+abbrev pub step_of : Entry → Option Event
+step_of (entries.Ask page mask) = Some (events.Ask page mask)
+step_of (entries.Turn round by) = Some (events.Turn round)
+step_of (entries.Clear vp) = Some (events.Clear vp false)
+step_of (entries.Start by vp level) = Some (events.Post vp words.Start 1)
+step_of (entries.Enable by) = None
+step_of (entries.Level by vp) = None
+step_of (entries.Config by value) = None
+step_of (entries.Fetch vp) = None
+step_of (entries.Look by) = None
+step_of (entries.Refuse by status) = None
+step_of (entries.Report round) = None
+
+-- the steward made this step, or none and then it stands where it stood
+abbrev pub ServesIf : Stand → Option Event → Stand → Type 0
+ServesIf before None after = after ≡ before
+ServesIf before (Some e) after = Serves before e after
+
+-- the request under way once these entries are left of it
+abbrev pub left : List Entry → Reply → Option Doing
+left [] reply = None
+left (e ∷ rest) reply = Some (record { rest = e ∷ rest; reply = reply })
+
+-- what a turn answers then
+abbrev pub turn_of : List Entry → Reply → PartTurn
+turn_of [] reply = Done reply
+turn_of (e ∷ rest) reply = Moved
+
+-- the next entry was added, with its step
+pub record Adds (e : Entry) (rest : List Entry) (reply : Reply) (old : PartView) (before : Stand) (new : PartView) (after : Stand) (turn : PartTurn) : Type 0 where
+  pub step : ServesIf before (step_of e) after
+  pub view : new ≡ record { state = old.state; journal = with_entry old.journal e; under = left rest reply }
+  pub answer : turn ≡ turn_of rest reply
+
+-- the next entry clears a processor, which was found busy
+pub record Waits (e : Entry) (old : PartView) (before : Stand) (new : PartView) (after : Stand) (turn : PartTurn) : Type 0 where
+  pub vp : VpIndex
+  pub clear : e ≡ entries.Clear vp
+  pub step : Serves before (events.Clear vp true) after
+  pub view : new ≡ old
+  pub answer : turn ≡ Busy vp
+
+abbrev pub TurnsBy : List Entry → Reply → PartView → Stand → PartView → Stand → PartTurn → Type 0
+TurnsBy [] reply old before new after turn = ⊥
+TurnsBy (e ∷ rest) reply old before new after turn = Adds e rest reply old before new after turn ⊎ Waits e old before new after turn
+
+abbrev pub TurnsUnder : Option Doing → PartView → Stand → PartView → Stand → PartTurn → Type 0
+TurnsUnder None old before new after turn = ⊥
+TurnsUnder (Some doing) old before new after turn = TurnsBy doing.rest doing.reply old before new after turn
+
+-- one turn: the next entry of the request under way was added, or its processor was found busy
+abbrev pub Turns : PartView → Stand → PartView → Stand → PartTurn → Type 0
+Turns old before new after turn = TurnsUnder old.under old before new after turn
+
+-- the opening masks, the room for entries and the number of processors stay
+pub record IsKept (old new : PartView) : Type 0 where
+  pub opening : new.journal.opening ≡ old.journal.opening
+  pub room : new.journal.room ≡ old.journal.room
+  pub vps : length new.state.vps ≡ length old.state.vps

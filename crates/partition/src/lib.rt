@@ -1,0 +1,13 @@
+//! The partition, which serves requests one at a time and adds one entry to its journal a turn.
+#![tactic(auto)]
+
+mod checks;
+mod plans;
+mod serving;
+mod turn;
+
+pub use serving::Partition;
+pub use turn::PartTurn;
+
+#[cfg(test)]
+mod tests;

@@ -1,0 +1,160 @@
+// The partition, between two requests and while it serves one.
+ghost use Rattle.std.specs.Option.{is_none};
+ghost use Rattle.std.specs.Prelude.{◌≡◌, ◌≢◌, ◌+◌, ◌<◌, ◌≤◌, None, length, IfOk};
+ghost use Rattle.vsm_core.specs.Partition.{opening_partition};
+ghost use Rattle.vsm_core.specs.Served.{block};
+ghost use Rattle.partition.specs.PartView.{begun, opening_view};
+ghost use Rattle.partition.specs.Turns.{Turns, IsKept};
+
+use crate::plans::{Under, plan};
+use crate::turn::PartTurn;
+use fabric::Steward;
+use protection_map::Journal;
+use std::alloc::{AllocError, Global};
+use std::marker::Model;
+use vsm_base::{Items, Limits, Mask, Memory};
+use vsm_core::{PartitionState, Request, Standing};
+
+/// The partition, between two requests and while it serves one.
+#[derive(Debug, Drop)]
+pub struct Partition {
+    state: PartitionState,
+    journal: Journal,
+    under: Option<Under>,
+}
+
+impl Model for Partition {
+    ghost use Rattle.partition.specs.PartView.{PartView};
+    ghost use Rattle.partition.specs.Plans.{doing};
+    ghost use Rattle.partition.specs.Sound.{IsSound};
+
+    ghost Value = { PartView };
+
+    ghost view = { λ p. record { state = p.state; journal = p.journal; under = doing p.under } };
+
+    ghost invariant = { λ p. IsSound p.state p.journal p.under };
+}
+
+/// What the partition knows before the first request.
+fn opening_partition(alloc: Global, vps: u8, started: u8) -> Result<PartitionState, AllocError>
+    ensures { IfOk result (λ state. state ≡ opening_partition vps started) }
+{
+    let mut standings = Items::new(alloc);
+    for vp in 0..vps {
+        standings.push(Standing {
+            one: false,
+            started: vp < started,
+            waiting: None,
+        })?;
+    }
+    Ok(PartitionState {
+        enabled: false,
+        vps: standings,
+    })
+}
+
+impl Partition {
+    /// A partition that is free, with no entry in its journal. Level 1 isn't enabled anywhere, the first `started`
+    /// processors are started, and `masks` has the mask of each page. Needs at most 8 processors, 256 pages and a budget
+    /// of 10,000 marks, a mask for each page, and no more started processors than there are.
+    ///
+    /// # Errors
+    /// `Memory` where there is no memory for the processors or for the journal, and for no other cause.
+    pub fn new(
+        alloc: Global,
+        limits: &Limits,
+        masks: &[Mask],
+        started: u8,
+    ) -> Result<Partition, Memory>
+        requires vps { limits.now.vps ≤ 8 }
+        requires pages { limits.now.pages ≤ 256 }
+        requires budget { limits.now.budget ≤ 10000 }
+        requires masks { length masks.now ≡ limits.now.pages }
+        requires started { started ≤ limits.now.vps }
+        ensures { IfOk result (λ partition. partition ≡ opening_view limits.now masks.now started) }
+    {
+        Ok(Partition {
+            state: opening_partition(alloc, limits.vps, started)?,
+            journal: Journal::new(alloc, limits, masks)?,
+            under: None,
+        })
+    }
+
+    /// Whether no request is under way.
+    pub fn is_free(&self) -> bool
+        ensures { result ≡ is_none self.now.under }
+    {
+        self.under.is_none()
+    }
+
+    /// The journal so far.
+    pub fn journal(&self) -> &Journal
+        ensures { result.now ≡ self.now.journal }
+    {
+        &self.journal
+    }
+
+    /// The journal, where the partition is done with.
+    pub fn into_journal(self) -> Journal
+        ensures { result ≡ self.journal }
+    {
+        let Partition {
+            state: _,
+            journal,
+            under: _,
+        } = self;
+        journal
+    }
+
+    /// Begins a request. What it comes to is decided here, by the state as it is now, and `turn` adds its entries. Needs
+    /// that no request is under way, that the caller is below the number of processors, and room for the entries.
+    ///
+    /// `PartCall::EnablePartition` enables level 1 for the partition (TLFS, HvCallEnablePartitionVtl). Its status is
+    /// the first of these whose cause is there, and else `SUCCESS`:
+    /// 1. `INVALID_PARTITION_ID`: the first word isn't 2^64 - 1, which names the caller's own partition.
+    /// 2. `INVALID_PARAMETER`: the target level, bits 7:0 of the second word, isn't 1, or a bit above it is set.
+    /// 3. `VTL_ALREADY_ENABLED`: level 1 is enabled for the partition already.
+    ///
+    /// `PartCall::EnableVp` enables level 1 on a processor, with the context in the words from the third on (TLFS,
+    /// HvCallEnableVpVtl). Its status is the first of these whose cause is there, and else `SUCCESS`:
+    /// 1. `INVALID_PARTITION_ID`: the first word isn't 2^64 - 1.
+    /// 2. `INVALID_VP_INDEX`: no processor has the index, bits 31:0 of the second word. 0xFFFFFFFE is the caller.
+    /// 3. `INVALID_PARAMETER`: the target level, bits 39:32 of the second word, isn't 1, or a bit above it is set.
+    /// 4. `INVALID_VTL_STATE`: level 1 isn't enabled for the partition.
+    /// 5. `VTL_ALREADY_ENABLED`: level 1 is enabled on that processor already.
+    /// 6. `ACCESS_DENIED`: level 0 calls, and level 1 is enabled on some processor.
+    /// 7. `INVALID_VP_STATE`: that processor isn't the caller, and is started.
+    /// 8. `INVALID_REGISTER_VALUE`: a register of the context has a bit set that must be zero.
+    ///
+    /// The caller gets its own context by the reply; the context of another processor waits for that one's start.
+    ///
+    /// A call that isn't built yet is refused as one that there isn't, with `INVALID_HYPERCALL_CODE`. A refused request
+    /// adds the entry of its refusal and changes nothing else. That, and the order of the causes, are this project's own.
+    pub fn begin(&mut self, request: Request)
+        requires free { self.old.under ≡ None }
+        requires by { request.by.0 < length self.old.state.vps }
+        requires room { length self.old.journal.entries + length (block self.old.state request) ≤ self.old.journal.room }
+        ensures view { self.new ≡ begun self.old request }
+        ensures kept { length self.new.state.vps ≡ length self.old.state.vps }
+    {
+        let under = plan(&mut self.state, &request);
+        self.under = Some(under);
+    }
+
+    /// Adds the next entry of the request under way to the journal, with the step on the shared words that it takes,
+    /// if it takes one: an ask of a page's mask, a turn, a clear of a processor, or the post of a start. Where the
+    /// entry clears a processor that is found busy, nothing is added. Needs that a request is under way. The order of
+    /// the entries is this project's own. No request that is built today takes a step.
+    pub fn turn<S: Steward>(&mut self, steward: &mut S) -> PartTurn
+        requires going { self.old.under ≢ None }
+        ensures turn { Turns self.old (S.stand steward.old) self.new (S.stand steward.new) result }
+        ensures kept { IsKept self.old self.new }
+    {
+        let Some(under) = self.under else {
+            unreachable!()
+        };
+        self.journal.add(under.entry);
+        self.under = None;
+        PartTurn::Done(under.reply)
+    }
+}
