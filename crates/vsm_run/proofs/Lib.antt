@@ -1,5 +1,6 @@
 pub mod Acts
 pub mod Attempts
+pub mod Blocks
 pub mod Finishes
 pub mod First
 pub mod Reports
