@@ -9,7 +9,7 @@ use Rattle.vsm_core.specs.Outcomes.{Origin, Outcome}
 use Rattle.vsm_core.specs.Tree.{Tree, Ends}
 use Rattle.vsm_core.proofs.Bounds.{attempt-counts}
 use Rattle.cpu.specs.declared.stage.Stage.{Stage}
-use Rattle.cpu.specs.declared.stage.Stage.TheVariants.{Reach, Take, Judge, Touch, Leave, End}
+use Rattle.cpu.specs.declared.stage.Stage.TheVariants.{Reach, Take, Judge, Touch, Input, Want, Leave, End}
 use Rattle.cpu.specs.declared.stage.Under.{Under}
 use Rattle.cpu.specs.Stages.{StageRest, StageIs, StageAt, IsTaking, IsTidy, IsUnderWay}
 use Rattle.cpu.proofs.Lists.{drop-length}
@@ -39,5 +39,7 @@ tidy-begun part first from op (Reach path) tree is rest at no_poll asks = tt
 tidy-begun part first from op (Take taken) tree is rest at no_poll asks = absurd (no_poll tt)
 tidy-begun part first from op (Judge case) tree is rest at no_poll asks = absurd is
 tidy-begun part first from op (Touch gate task) tree is rest at no_poll asks = tt
+tidy-begun part first from op (Input input) tree is rest at no_poll asks = tt
+tidy-begun part first from op (Want asked) tree is rest at no_poll asks = absurd (no_poll tt)
 tidy-begun part first from op (Leave decided) tree is rest at no_poll asks = absurd at
 tidy-begun part first from op (End decided) tree is rest at no_poll asks = absurd (asks _ rest.1)

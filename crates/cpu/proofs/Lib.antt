@@ -6,6 +6,7 @@ pub mod Openings
 pub mod Ops
 pub mod Planned
 pub mod Polls
+pub mod ContextGiven
 pub mod Judged
 pub mod Marking
 pub mod InputWords

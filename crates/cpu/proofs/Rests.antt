@@ -1,5 +1,5 @@
 -- What is left of an attempt at its stages.
-use Rattle.std.proofs.Common.{◌≡◌, ◌≢◌, ◌∙◌, ◌<◌, ℕ, ◌==◌, ◌&&◌, Bool, true, false, cond, Option, Some, None, List, [], ◌∷◌, refl, sym, ap}
+use Rattle.std.proofs.Common.{◌≡◌, ◌≢◌, ◌∙◌, ◌<◌, ℕ, ◌==◌, ◌&&◌, Bool, true, false, cond, Option, Some, None, List, [], ◌∷◌, refl, sym, ap, subst, zero, suc, ◌+◌, ◌-◌, ◌/◌, ◌%◌, take}
 use Rattle.vsm_base.specs.declared.places.Access.{Access}
 use Rattle.vsm_base.specs.declared.places.Access.TheVariants.{Read, Write, Execute}
 use Rattle.vsm_core.specs.declared.mark.Grant.{Grant}
@@ -10,20 +10,24 @@ use Rattle.vsm_core.specs.declared.mark.What.{What}
 use Rattle.vsm_core.specs.declared.mark.What.TheVariants as whats
 use Rattle.vsm_core.specs.declared.mark.What.TheVariants.{Again}
 use Rattle.vsm_core.specs.declared.operation.Op.{Op}
-use Rattle.vsm_core.specs.declared.operation.Op.TheVariants.{Set, Get, Load, Store, Exec, Spin, Jump, JumpNe, VtlCall, VtlReturn, Poll}
+use Rattle.vsm_core.specs.declared.operation.Op.TheVariants.{Set, Get, Load, Store, Exec, Spin, Jump, JumpNe, Hypercall, VtlCall, VtlReturn, Poll}
 use Rattle.vsm_core.specs.declared.operation.Op.TheVariants as ops
 use Rattle.vsm_core.specs.declared.mark.EomWord.TheVariants as eoms
 use Rattle.vsm_core.specs.declared.note.Note.{Note}
 use Rattle.vsm_core.specs.Access.{Goal, Decision, data_step, access}
-use Rattle.vsm_core.specs.Attempt.{attempt, begun, left_with, goal_of, in_own_access, told_on, returns, eom_on, is_wanted, wanted_outcome, unwanted_outcome}
+use Rattle.vsm_base.specs.declared.status.HvStatus.{HvStatus}
+use Rattle.hyper_abi.specs.Told.{row_for}
+use Rattle.vsm_core.specs.Calls.{Row, row_of, code_in, is_fast}
+use Rattle.vsm_core.specs.Hypercalls.{input_value, input_address, fast_words, input_refusal}
+use Rattle.vsm_core.specs.Attempt.{attempt, begun, by_refusal, by_memory, requests, left_for, left_with, goal_of, in_own_access, told_on, returns, eom_on, is_wanted, wanted_outcome, unwanted_outcome}
 use Rattle.vsm_core.specs.Controllers.{Controllers, message_page, eom_by, waiting_then, with_taken}
 use Rattle.vsm_core.specs.Fills.{Cached, Fill}
 use Rattle.vsm_core.specs.Outcomes.{Origin, Outcome, outcome_at, faulted, plain, loaded, passed, spun, set_outcome, get_outcome, empties, note_of, denied_outcome, held_outcome, eom_outcome}
 use Rattle.vsm_core.specs.Processor.{Vp, came_to, marked, settled}
 use Rattle.vsm_core.specs.Registers.{is_legal}
-use Rattle.vsm_core.specs.State.{State, operand, gone_on, may_name, get, put}
+use Rattle.vsm_core.specs.State.{State, operand, privilege_of, gone_on, may_name, get, put}
 use Rattle.vsm_core.specs.Switch.{may_call, may_return, may_enter, called, returned, is_zero, assist_page, restored_from, by_call}
-use Rattle.vsm_core.specs.Tree.{Tree, Ends, Asks, WordStep, then_, asks_all, follow}
+use Rattle.vsm_core.specs.Tree.{Tree, Ends, Asks, Wants, WordStep, then_, asks_all, reads, follow}
 use Rattle.access_path.specs.declared.aim.Aim.{Aim}
 use Rattle.access_path.specs.declared.place.Place.{Place}
 use Rattle.access_path.specs.declared.place.Place.TheVariants.{Start, Check, TableMask, TableRead, DataMask, Data, Over}
@@ -32,14 +36,22 @@ use Rattle.cpu.specs.declared.decided.Decided.{Decided}
 use Rattle.cpu.specs.declared.decided.Decided.TheVariants as decisions
 use Rattle.cpu.specs.declared.stage.Stage.{Stage}
 use Rattle.cpu.specs.declared.decided.Refusal.{Refusal}
-use Rattle.cpu.specs.declared.stage.Stage.TheVariants.{Reach, Take, Judge, Touch, Leave, End}
+use Rattle.cpu.specs.declared.stage.Stage.TheVariants.{Reach, Take, Judge, Touch, Input, Want, Leave, End}
 use Rattle.cpu.specs.declared.task.Taken.{Taken}
 use Rattle.cpu.specs.declared.task.Gate.{Gate}
 use Rattle.cpu.specs.declared.task.Gate.TheVariants.{Outside, Entered, Inside}
 use Rattle.cpu.specs.declared.task.Task.{Task}
 use Rattle.cpu.specs.declared.task.Task.TheVariants.{Look, Make, Rax, Rcx}
 use Rattle.cpu.specs.Results.{EndsAs, again_of, granted_of, local_outcome, polled_outcome, refusal_of, result_of, switched, told_or_held, with_does}
+use Rattle.cpu.specs.declared.input.Asked.{Asked}
+use Rattle.cpu.specs.declared.input.Input.{Input as Input_}
+use Rattle.cpu.specs.declared.input.Spot.{Spot}
+use Rattle.cpu.specs.declared.input.Spot.TheVariants as spots
+use Rattle.cpu.specs.Inputs.{spot_rest, words_of, asks_for}
 use Rattle.cpu.specs.Tasks.{gate_rest, plan_steps, task_rest, taking_rest}
+use Rattle.vsm_core.specs.declared.mark.Ending.{Ending}
+use Rattle.cpu.specs.declared.cpu_turn.CpuTurn.TheVariants.{Moved}
+use Rattle.cpu.specs.Turns.{OwesBy, answer_at, after_mark}
 use Rattle.cpu.specs.Stages.{StageIs, StageRest, is_going}
 use Rattle.cpu.proofs.Polls.{next-taken}
 
@@ -82,14 +94,62 @@ gate-asks Outside inside a = (_, _, refl)
 gate-asks Entered inside a = (_, _, refl)
 gate-asks Inside inside a = a
 
+reads-asks : (page index count : ℕ) (found : List ℕ) (from : Origin) (code : ℕ) → IsAsking (reads page index count found (left_for from code))
+reads-asks page index zero found from code = (_, _, refl)
+reads-asks page index (suc count) found from code = (_, _, refl)
+
+spot-asks : (from : Origin) (i : Input_) (spot : Spot) → IsAsking (spot_rest from i spot)
+spot-asks from i spots.Outside = (_, _, refl)
+spot-asks from i spots.Entered = (_, _, refl)
+spot-asks from i (spots.Masking generation) = (_, _, refl)
+spot-asks from i spots.Inside = reads-asks (i.address / 4096) (i.address % 4096 / 8 + i.done) (words_of i.call - i.done) (take i.done i.words) from (row_for i.call).code
+
 -- a step is next at a stage from which one is made
-pub stage-asks : (from : Origin) (op : Op) (stage : Stage) (tree : Tree Outcome) → StageIs from.pages from.number stage → StageRest from op stage tree → ((decided : Decided) → stage ≢ End decided) → IsAsking tree
-stage-asks from op (Reach path) tree is r not_end = rw r.2 (then_-asks r.0 _ (Rest-asks path.aim path.place r.0 r.1))
-stage-asks from op (Take taken) tree is r not_end = rw r (taking-asks from taken is)
-stage-asks from op (Judge case) tree is r not_end = absurd is
-stage-asks from op (Touch gate task) tree is r not_end = rw r.1 (gate-asks gate (task_rest from op r.0 task) (task-asks from op r.0 task))
-stage-asks from op (Leave decided) tree is r not_end = (_, _, r.1)
-stage-asks from op (End decided) tree is r not_end = absurd (not_end decided refl)
+pub stage-asks : (from : Origin) (op : Op) (stage : Stage) (tree : Tree Outcome) → StageIs from.pages from.number stage → StageRest from op stage tree → ((asked : Asked) → stage ≢ Want asked) → ((decided : Decided) → stage ≢ End decided) → IsAsking tree
+stage-asks from op (Reach path) tree is r not_want not_end = rw r.2 (then_-asks r.0 _ (Rest-asks path.aim path.place r.0 r.1))
+stage-asks from op (Take taken) tree is r not_want not_end = rw r (taking-asks from taken is)
+stage-asks from op (Judge case) tree is r not_want not_end = absurd is
+stage-asks from op (Touch gate task) tree is r not_want not_end = rw r.1 (gate-asks gate (task_rest from op r.0 task) (task-asks from op r.0 task))
+stage-asks from op (Input input) tree is r not_want not_end = rw r.1 (spot-asks from input input.spot)
+stage-asks from op (Want asked) tree is r not_want not_end = absurd (not_want asked refl)
+stage-asks from op (Leave decided) tree is r not_want not_end = (_, _, r.1)
+stage-asks from op (End decided) tree is r not_want not_end = absurd (not_end decided refl)
+
+-- an attempt that hasn't come to its end
+abbrev pub IsOpen : Tree Outcome → Type 0
+IsOpen (Ends o) = ⊥
+IsOpen _ = Unit {0}
+
+asking-open : (tree : Tree Outcome) → IsAsking tree → IsOpen tree
+asking-open tree a = rw a.2 tt
+
+pub stage-open : (from : Origin) (op : Op) (stage : Stage) (tree : Tree Outcome) → StageIs from.pages from.number stage → StageRest from op stage tree → ((decided : Decided) → stage ≢ End decided) → IsOpen tree
+stage-open from op (Reach path) tree is r not_end = asking-open tree (stage-asks from op (Reach path) tree is r (λ asked e. cc) not_end)
+stage-open from op (Take taken) tree is r not_end = asking-open tree (stage-asks from op (Take taken) tree is r (λ asked e. cc) not_end)
+stage-open from op (Judge case) tree is r not_end = absurd is
+stage-open from op (Touch gate task) tree is r not_end = asking-open tree (stage-asks from op (Touch gate task) tree is r (λ asked e. cc) not_end)
+stage-open from op (Input input) tree is r not_end = asking-open tree (stage-asks from op (Input input) tree is r (λ asked e. cc) not_end)
+stage-open from op (Want asked) tree is r not_end = rw r tt
+stage-open from op (Leave decided) tree is r not_end = asking-open tree (stage-asks from op (Leave decided) tree is r (λ asked e. cc) not_end)
+stage-open from op (End decided) tree is r not_end = absurd (not_end decided refl)
+
+pub settled-stays : (tree : Tree Outcome) (v : Vp) → IsOpen tree → v ≡ settled tree v
+settled-stays (Ends o) v open_ = absurd open_
+settled-stays (Asks s k) v open_ = refl
+settled-stays (Wants q k) v open_ = refl
+
+pub answer-moves : (tree : Tree Outcome) (ended : Option Ending) → IsOpen tree → Moved ≡ answer_at tree ended
+answer-moves (Ends o) ended open_ = absurd open_
+answer-moves (Asks s k) ended open_ = refl
+answer-moves (Wants q k) ended open_ = refl
+
+-- a turn that leaves a mark hands out no request
+pub marks-owe : (what : What) (ended : Option Ending) → OwesBy (after_mark what ended) false
+marks-owe what (Some ending) = refl
+marks-owe what None = none what where
+  none : (w : What) → OwesBy (after_mark w None) false
+  none (Again grant) = refl
+  none _ = refl
 
 -- no end that it has at once is a spin's that found another value
 abbrev pub NoAgain : Tree Outcome → Type 0
@@ -137,6 +197,11 @@ eom_on-no-again from None waiting = eom-outcome-stays from None
 eom_on-no-again from (Some page) [] = eom-outcome-stays from None
 eom_on-no-again from (Some page) (note ∷ more) = tt
 
+by_refusal-no-again : (from : Origin) (row : Option Row) (refusal : Option HvStatus) → NoAgain (by_refusal from row refusal)
+by_refusal-no-again from row (Some status) = λ grant e. cc
+by_refusal-no-again from None None = λ grant e. cc
+by_refusal-no-again from (Some row) None = NoAgain-tree (is_fast (input_value from.state)) (requests from row.code (fast_words from.state)) (by_memory from row (input_address from.state)) tt tt
+
 pub attempt-no-again : (from : Origin) (op : Op) → NoAgain (attempt from op)
 attempt-no-again from (Set name value) = set-no-again from name value
 attempt-no-again from (Get name) = get-no-again from name
@@ -146,6 +211,7 @@ attempt-no-again from (Exec gva) = begun-no-again from (passed from.state) (goal
 attempt-no-again from (Spin gva value) = begun-no-again from (spun from.state value) (goal_of from.pages from.state Read true gva.0 0) _
 attempt-no-again from (Jump rip) = λ grant e. cc
 attempt-no-again from (JumpNe name value rip) = λ grant e. cc
+attempt-no-again from Hypercall = NoAgain-tree (privilege_of from.state == 0) (by_refusal from (row_of (code_in (input_value from.state))) (input_refusal from.pages (row_of (code_in (input_value from.state))) (input_value from.state) (input_address from.state))) (Ends (faulted from Undefined)) (by_refusal-no-again from (row_of (code_in (input_value from.state))) (input_refusal from.pages (row_of (code_in (input_value from.state))) (input_value from.state) (input_address from.state))) (λ grant e. cc)
 attempt-no-again from VtlCall = NoAgain-tree (may_call from.state) (in_own_access (told_on (assist_page from.pages from.state) by_call) (plain from (called from.state))) (Ends (faulted from Undefined)) (told-no-again (assist_page from.pages from.state) by_call from (called from.state)) (λ grant e. cc)
 attempt-no-again from VtlReturn = NoAgain-tree (may_return from.state) (returns from (restored_from from.pages from.state)) (Ends (faulted from Undefined)) (returns-no-again from (restored_from from.pages from.state)) (λ grant e. cc)
 attempt-no-again from Poll = tt
@@ -187,10 +253,10 @@ spin-stays : (b : Bool) (now state : State) (found grant : Grant) → cond b Non
 spin-stays true now state found grant e = λ h. cc
 spin-stays false now state found grant e = λ h. cc
 
--- an operation whose spin found another value is no poll
-pub again-spins : (op : Op) (decided : Decided) (grant : Grant) → again_of op decided ≡ Some grant → op ≢ Poll
-again-spins (Spin gva value) decided grant e = λ h. cc
-again-spins _ decided grant e = λ h. cc
+-- an operation whose spin found another value is neither a poll nor a hypercall
+pub again-spins : (op : Op) (decided : Decided) (grant : Grant) → again_of op decided ≡ Some grant → (op ≢ Poll) × (op ≢ Hypercall)
+again-spins (Spin gva value) decided grant e = (λ h. cc, λ h. cc)
+again-spins _ decided grant e = cc
 
 abbrev at_result : Origin → What × State → Outcome
 at_result from r = outcome_at from r.0 r.1 []
@@ -230,17 +296,24 @@ result-stays from op (decisions.Fault fault) grant e = λ h. cc
 result-stays from op decisions.Called grant e = switched-stays (may_call from.state) from (called from.state) grant
 result-stays from op (decisions.Returned pair) grant e = switched-stays (may_return from.state) from (returned from.state pair) grant
 result-stays from op (decisions.Polled found) grant e = polled-stays from.state (with_taken from.controllers found) grant
+result-stays from op (decisions.Replied value context) grant e = λ h. cc
 result-stays from op (decisions.Eom slot) grant e = eom-outcome-stays from slot grant
 
 came-marked : (what : What) (v : Vp) (o : Outcome) → ((grant : Grant) → what ≢ Again grant) → came_to what v o ≡ marked v o
 came-marked (Again grant) v o h = absurd (h grant refl)
 came-marked _ v o h = refl
 
+pub settled-again : (v : Vp) (tree : Tree Outcome) (from : Origin) (op : Op) (decided : Decided) (grant : Grant) → EndsAs tree (result_of from op decided) → again_of op decided ≡ Some grant → came_to (Again grant) v (outcome_at from (Again grant) from.state []) ≡ settled tree v
+settled-again v tree from op decided grant ends some =
+    let o : Outcome = outcome_at from (Again grant) from.state [] in
+    rw ends.1 (subst (λ (r : Outcome). came_to (Again grant) v o ≡ came_to r.what v (with_does ends.0 r)) (sym (result-again from op decided grant some)) refl)
+
 pub settled-marked : (v : Vp) (tree : Tree Outcome) (from : Origin) (op : Op) (decided : Decided) → EndsAs tree (result_of from op decided) → again_of op decided ≡ None → marked v (result_of from op decided) ≡ settled tree v
 settled-marked v tree from op decided ends none =
     rw ends.1 (sym (came-marked (result_of from op decided).what v (with_does ends.0 (result_of from op decided)) (λ grant. result-stays from op decided grant none)))
 
 -- a stage from which no step is made
-pub going-ends : (from : Origin) (op : Op) (stage : Stage) (tree : Tree Outcome) → is_going stage ≡ false → StageRest from op stage tree → (o : Outcome) × (tree ≡ Ends o)
-going-ends from op (End decided) tree going rest = (_, rest.1)
-going-ends from op _ tree going rest = cc
+pub going-ends : (from : Origin) (op : Op) (stage : Stage) (tree : Tree Outcome) → is_going stage ≡ false → ((asked : Asked) → stage ≢ Want asked) → StageRest from op stage tree → (o : Outcome) × (tree ≡ Ends o)
+going-ends from op (End decided) tree going not_want rest = (_, rest.1)
+going-ends from op (Want asked) tree going not_want rest = absurd (not_want asked refl)
+going-ends from op _ tree going not_want rest = cc

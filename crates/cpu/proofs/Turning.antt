@@ -6,10 +6,20 @@ use Rattle.vsm_core.specs.declared.mark.Grant.{Grant}
 use Rattle.vsm_core.specs.declared.mark.What.{What}
 use Rattle.vsm_core.specs.declared.mark.What.TheVariants as whats
 use Rattle.vsm_core.specs.declared.operation.Op.{Op}
+use Rattle.vsm_base.specs.declared.places.Vtl.{Vtl}
 use Rattle.vsm_core.specs.declared.request.Reply.{Reply}
+use Rattle.vsm_core.specs.declared.request.Request.{Request}
+use Rattle.vsm_core.specs.Calls.{result_value}
+use Rattle.vsm_core.specs.Hypercalls.{own_context, replied}
+use Rattle.cpu.specs.declared.cpu_turn.CpuTurn.TheVariants as turns
+use Rattle.cpu.specs.declared.decided.Decided.TheVariants.{Replied}
+use Rattle.cpu.specs.declared.input.Asked.{Asked}
+use Rattle.cpu.specs.declared.stage.Stage.TheVariants.{Want}
+use Rattle.cpu.specs.Inputs.{asks_for, request_for}
+use Rattle.cpu.specs.Results.{result_of}
 use Rattle.vsm_core.specs.Attempt.{attempt, most_steps, most_steps_of}
 use Rattle.vsm_core.specs.Outcomes.{Origin, Outcome}
-use Rattle.vsm_core.specs.Processor.{Vp, answers_of, origin_of, came_to, ending_after, marked_or_ended, rest_of, settled, standing}
+use Rattle.vsm_core.specs.Processor.{Vp, answers_of, origin_of, came_to, ending_after, marked, marked_or_ended, rest_of, settled, standing, asking, answered}
 use Rattle.vsm_core.specs.Seat.{Seat, Makes}
 use Rattle.vsm_core.specs.State.{State}
 use Rattle.vsm_core.specs.Steps.{made, phase_after}
@@ -22,8 +32,8 @@ use Rattle.cpu.specs.declared.stage.Under.{Under}
 use Rattle.cpu.specs.Logs.{first_by, seen_by}
 use Rattle.vsm_core.specs.declared.event.Phase.{Phase}
 use Rattle.cpu.specs.declared.stage.Stage.{Stage}
-use Rattle.cpu.specs.Stages.{StageIs, StageMay, StageAt, StageRest, StageSteps, IsTidy, IsUnderWay, Means, op_of}
-use Rattle.cpu.specs.Turns.{TurnsBy, answer_at, phase_at}
+use Rattle.cpu.specs.Stages.{StageIs, StageMay, StageAt, StageRest, StageSteps, IsTidy, IsUnderWay, Means, IsWant, op_of}
+use Rattle.cpu.specs.Turns.{TurnsBy, AcceptsBy, after_mark, answer_at, phase_at}
 use Rattle.cpu.proofs.Rests.{NoAgain, attempt-no-again}
 use Rattle.cpu.proofs.Attempts.{none-seen}
 use Rattle.cpu.proofs.Seen.{own-by, answers-by, phase-by, saw-by, saw_so}
@@ -157,3 +167,18 @@ again-few n tree o grant counts ends again =
     let h : n ≤ most_steps o = rw ends at counts in
     let most : most_steps o ≡ 13 = ap most_steps_of again in
     omega (arith, h, most)
+
+-- the turn that hands out a request
+pub wanted-by : (v n : Vp) (op : Op) (from : Origin) (asked : Asked) (seat : Seat) (q : Request) → rest_of v (Some op) ≡ asks_for from asked → n ≡ asking (Some op) v → q ≡ request_for from asked
+    → TurnsBy (rest_of v (Some op)) (Some op) v seat n seat (turns.Wants q)
+wanted-by v n op from asked seat q e en eq = rw e (refl, en, ap turns.Wants eq)
+
+-- a stage that waits for a reply
+pub want-rest : (from : Origin) (op : Op) (stage : Stage) (tree : Tree Outcome) → IsWant stage → StageRest from op stage tree → (asked : Asked) × (tree ≡ asks_for from asked)
+want-rest from op (Want asked) tree is rest = (asked, rest)
+want-rest from op _ tree is rest = absurd is
+
+-- the reply
+pub accepted-by : (v n : Vp) (from : Origin) (op : Op) (asked : Asked) (reply : Reply) (value : ℕ) (context : Option (Vtl × List ℕ)) (turn : CpuTurn) (tree : Tree Outcome) → tree ≡ asks_for from asked → value ≡ result_value reply.status reply.done → context ≡ own_context reply.context
+    → n ≡ marked (answered v) (result_of from op (Replied value context)) → turn ≡ after_mark (result_of from op (Replied value context)).what n.ended → AcceptsBy tree reply v n turn
+accepted-by v n from op asked reply value context turn tree e ev ec en et = rw e (replied from reply, refl, rw (ev, ec) at en, rw ev at et)

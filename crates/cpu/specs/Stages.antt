@@ -90,9 +90,10 @@ is_going (Want asked) = false
 is_going (End decided) = false
 is_going _ = true
 
--- a poll takes its words
+-- a poll takes its words, or a hypercall asks the partition at once
 abbrev pub IsTaking : Stage → Type 0
 IsTaking (Take taken) = Unit {0}
+IsTaking (Want asked) = Unit {0}
 IsTaking _ = ⊥
 
 -- a port that may be lent to a stage from which a step is made

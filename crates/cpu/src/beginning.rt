@@ -181,7 +181,7 @@ pub fn begin(
     ensures rest { StageRest (origin_at pages vp.0 bank.now levels.now controllers.now) op result (attempt (origin_at pages vp.0 bank.now levels.now controllers.now) op) }
     ensures is { StageIs pages vp.0 result }
     ensures idle { StageAt result Idle }
-    ensures no_poll { op ≢ Op.Poll → ¬ IsTaking result }
+    ensures no_poll { op ≢ Op.Poll → op ≢ Op.Hypercall → ¬ IsTaking result }
 {
     match op {
         Op::Load(_, gva) => reaching(aim_at(pages, bank, levels, Access::Read, true, gva, 0)),

@@ -12,7 +12,7 @@ ghost use Rattle.vtl_state.specs.States.{state_of};
 ghost use Rattle.hyper_abi.specs.Told.{row_for};
 ghost use Rattle.cpu.specs.Held.{origin_with};
 ghost use Rattle.cpu.specs.Inputs.{part_call, request_for, opening_input};
-ghost use Rattle.cpu.specs.Stages.{StageRest, StageIs, StageAt, IsTaking, WantsCall};
+ghost use Rattle.cpu.specs.Stages.{StageRest, StageIs, StageAt, WantsCall};
 
 use crate::decided::Decided;
 use crate::input::{Asked, Input, Spot};
@@ -66,7 +66,6 @@ pub fn hypercalling(pages: u32, bank: &Bank, levels: &Levels) -> Stage
     ensures rest { (number : ℕ) (held : Contents) → StageRest (origin_with pages number bank.now levels.now held) Hypercall result (hypercall_tree (origin_with pages number bank.now levels.now held)) }
     ensures is { (number : ℕ) → StageIs pages number result }
     ensures idle { StageAt result Idle }
-    ensures no_poll { ¬ IsTaking result }
 {
     if privilege_of(bank, levels) != 0 {
         return Stage::End {
@@ -102,10 +101,10 @@ pub fn request(vp: VpIndex, levels: &Levels, asked: &Asked) -> Request
 pub fn own_context(reply: &Reply) -> Option<(Vtl, [u64; 28])>
     ensures { result ≡ own_context_lem reply.now.context }
 {
-    match &reply.context {
-        Some((level, words, _)) => Some((*level, *words)),
-        None => None,
-    }
+    let context = reply.context.as_ref()?;
+    let level = context.0;
+    let words = context.1;
+    Some((level, words))
 }
 
 /// A level gets its context, unless it is enabled already or the context has a bit that must be zero.
@@ -121,8 +120,9 @@ fn give_context(bank: &mut Bank, levels: &mut Levels, level: Vtl, words: &[u64; 
 fn take_context(bank: &mut Bank, levels: &mut Levels, context: &Option<(Vtl, [u64; 28])>)
     ensures { state_of bank.new levels.new ≡ with_context (state_of bank.old levels.old) context.now }
 {
-    if let Some((level, words)) = context {
-        give_context(bank, levels, *level, words);
+    if let Some(context) = context {
+        let words = context.1;
+        give_context(bank, levels, context.0, &words);
     }
 }
 

@@ -191,6 +191,7 @@ impl Cpu {
         requires op { self.old.op ≡ Some op }
         requires asks { (o : Outcome) → attempt (origin_of self.old) op ≢ Ends o }
         requires spins { op ≢ Op.Poll }
+        requires no_call { op ≢ Op.Hypercall }
         ensures new { self.new ≡ came_to (What.Again grant) self.old (outcome_at (origin_of self.old) (What.Again grant) self.old.state []) }
         ensures turn { result ≡ after_mark (What.Again grant) self.new.ended }
         ensures short { All IsShort (drop (length self.old.marks) self.new.marks) }

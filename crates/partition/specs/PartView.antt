@@ -1,5 +1,5 @@
 -- What contracts see of a partition.
-use Rattle.std.specs.Prelude.{ℕ, Option, Some, None, List, [], ◌∷◌}
+use Rattle.std.specs.Prelude.{ℕ, Option, Some, None, List}
 use Rattle.vsm_base.specs.declared.places.Limits.{Limits}
 use Rattle.vsm_core.specs.Partition.{opening_partition}
 use Rattle.vsm_core.specs.Served.{block, answer, after}

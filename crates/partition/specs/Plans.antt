@@ -1,5 +1,5 @@
 -- What a request comes to, as the code has it.
-use Rattle.std.specs.Prelude.{◌≡◌, Option, Some, None, List, [], ◌∷◌, length}
+use Rattle.std.specs.Prelude.{◌≡◌, Option, Some, None, [], ◌∷◌, length}
 use Rattle.vsm_core.specs.Served.{Service}
 use Rattle.vsm_core.specs.declared.partition_state.PartitionState.{PartitionState}
 use Rattle.partition.specs.PartView.{Doing}

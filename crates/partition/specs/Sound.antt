@@ -1,5 +1,5 @@
 -- What always holds of a partition.
-use Rattle.std.specs.Prelude.{ℕ, ◌+◌, ◌≤◌, Option, Some, None, length}
+use Rattle.std.specs.Prelude.{◌+◌, ◌≤◌, Option, Some, None, length}
 use Rattle.vsm_core.specs.declared.partition_state.PartitionState.{PartitionState}
 use Rattle.protection_map.specs.JournalView.{JournalView}
 use Rattle.partition.specs.Plans.{IsAlone}

@@ -1,5 +1,5 @@
 // What each request comes to.
-ghost use Rattle.std.specs.Prelude.{◌≡◌, ◌<◌, ◌≤◌, [], ◌∷◌, None, length};
+ghost use Rattle.std.specs.Prelude.{◌≡◌, ◌≤◌, None, length};
 ghost use Rattle.vsm_core.specs.Calls.{first_failed};
 ghost use Rattle.vsm_core.specs.Partition.{enable_partition_checks};
 ghost use Rattle.vsm_core.specs.Served.{serve, serve_call, judged, enable_partition};

@@ -94,7 +94,7 @@ impl Partition {
         &self.journal
     }
 
-    /// The journal, where the partition is done with.
+    /// Gives up the partition for its journal.
     pub fn into_journal(self) -> Journal
         ensures { result ≡ self.journal }
     {

@@ -92,7 +92,7 @@ impl Journal {
         self.entries.as_slice()
     }
 
-    /// The entries, the oldest first, where the journal is done with.
+    /// Gives up the journal for its entries, the oldest first. None of them is copied.
     pub fn into_entries(self) -> Items<Entry>
         ensures { result ≡ self.entries }
     {

@@ -1,4 +1,5 @@
 use Rattle.std.proofs.Common.{arith, ◌≡◌, Some, None, true, false, refl, sym, ap, ◌∙◌}
+use Rattle.vsm_core.specs.Outcomes.{Origin}
 use Rattle.vsm_core.specs.Processor.{Vp, operation_at}
 use Rattle.vsm_core.specs.Seat.{Seat}
 use Rattle.vtl_state.specs.States.{state_of}
@@ -8,7 +9,7 @@ use Rattle.cpu.specs.Turns.{phase_at}
 use Rattle.cpu.proofs.Rests.{going-ends}
 use Rattle.cpu.proofs.Seen.{first-by-le, first-by-few, part-by-le}
 use Rattle.cpu.specs.Held.{origin_at}
-use Rattle.cpu.proofs.Turning.{Stepped, again-kept, led-under, local-by, stepped, turned-by}
+use Rattle.cpu.proofs.Turning.{Stepped, again-kept, led-under, local-by, stepped, turned-by, wanted-by}
 use Rattle.cpu.proofs.processor.Cpu.advance.Given.{Over}
 use Rattle.cpu.proofs.processor.Cpu.advance.Goals as goal
 
@@ -18,9 +19,9 @@ returns-then-not-is_going-clause-turned g c =
     let v = view_of i in
     let u = c.begun-under.result in
     let means = c.begun-under.ensures.means i.log.seen.0 i.log.part i.log.first c.self.invariant.means in
-    let ends = going-ends (origin_at i.limits.pages i.vp.0 i.bank i.levels i.controllers) u.op u.stage _ (sym c.is_going.ensures ∙ c.if-not-is_going.true) means.rest in
+    let ends = going-ends (origin_at i.limits.pages i.vp.0 i.bank i.levels i.controllers) u.op u.stage _ (sym c.is_going.ensures ∙ c.if-not-is_going.true) c.in_default.not-Want means.rest in
     let own : operation_at c.args.program.now v.state ≡ Some u.op = rw (← c.operations-ops.ensures) c.begun-under.ensures.op in
-    let v1 : Vp = view_of (record { vp = i.vp; limits = i.limits; zero_length = i.zero_length; one_length = i.one_length; started = i.started; bank = i.bank; levels = i.levels; controllers = i.controllers; under = Some u; log = c.stand.new.self }) in
+    let v1 : Vp = view_of (record { vp = i.vp; limits = i.limits; zero_length = i.zero_length; one_length = i.one_length; started = i.started; bank = i.bank; levels = i.levels; controllers = i.controllers; under = Some u; owes = i.owes; log = c.stand.new.self }) in
     rw (← c.self.view_is, own) (local-by v v1 c.settle.new.self u.op ends.0 (g.P.Port.seat c.args.port.now) c.settle.result ends.1 (rw c.stand.ensures refl)
     (λ grant. again-kept (origin_at i.limits.pages i.vp.0 i.bank i.levels i.controllers) i.under u i.log.seen.0 i.log.part i.log.first ends.0 grant c.self.invariant.means c.begun-under.ensures.kept ends.1)
     c.settle.ensures.new c.settle.ensures.turn)
@@ -59,6 +60,7 @@ invariant_of-self-2 g c =
       room = w.room;
       running = w.running;
       spins = w.spins;
+      owing = λ e. let answered : i.owes ≡ false = rw (← c.self.view_is) at c.requires.answered in let no : true ≡ false = sym e ∙ answered in cc;
       waits = λ e. let no : true ≡ false = sym started ∙ e in cc;
       fresh = λ e. refl;
       means = led-under (origin_at i.limits.pages i.vp.0 i.bank i.levels i.controllers) u.op c.step-step.result.stage c.judged-stage.result _ _ _ st.led (record {
@@ -84,7 +86,7 @@ returns-clause-turned g c =
     let v = view_of i in
     let u = c.begun-under.result in
     let own : operation_at c.args.program.now v.state ≡ Some u.op = rw (← c.operations-ops.ensures) c.begun-under.ensures.op in
-    let v1 : Vp = view_of (record { vp = i.vp; limits = i.limits; zero_length = i.zero_length; one_length = i.one_length; started = i.started; bank = i.bank; levels = i.levels; controllers = i.controllers; under = Some (record { op = u.op; stage = c.judged-stage.result }); log = c.see.new.self }) in
+    let v1 : Vp = view_of (record { vp = i.vp; limits = i.limits; zero_length = i.zero_length; one_length = i.one_length; started = i.started; bank = i.bank; levels = i.levels; controllers = i.controllers; under = Some (record { op = u.op; stage = c.judged-stage.result }); owes = i.owes; log = c.see.new.self }) in
     rw (← c.self.view_is, own) (turned-by v v1 c.settle-2.new.self u.op (g.P.Port.seat c.args.port.now) (g.P.Port.seat c.step-step.new.port) c.step-step.result c.settle-2.result (way g c) (rw (c.see.ensures, c.stand.ensures) refl) c.settle-2.ensures.new c.settle-2.ensures.turn)
 
 pub returns-clause-serves : goal.returns-clause-serves
@@ -102,3 +104,14 @@ returns-clause-serves g c =
 
 pub returns-clause-name : goal.returns-clause-name
 returns-clause-name g c = let st = way g c in ap (λ (z : Seat). z.name) st.makes.after
+
+pub returns-in-Want-clause-turned : goal.returns-in-Want-clause-turned
+returns-in-Want-clause-turned g c =
+    let i = c.self.inside in
+    let v = view_of i in
+    let u = c.begun-under.result in
+    let from : Origin = origin_at i.limits.pages i.vp.0 i.bank i.levels i.controllers in
+    let means = c.begun-under.ensures.means i.log.seen.0 i.log.part i.log.first c.self.invariant.means in
+    let rest = rw c.in-Want.is at means.rest in
+    let own : operation_at c.args.program.now v.state ≡ Some u.op = rw (← c.operations-ops.ensures) c.begun-under.ensures.op in
+    rw (← c.self.view_is, own) (wanted-by v _ u.op from c.in-Want.asked (g.P.Port.seat c.args.port.now) c.request.result rest (rw c.stand.ensures refl) (c.request.ensures from refl refl))

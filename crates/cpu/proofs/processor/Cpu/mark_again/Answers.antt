@@ -1,4 +1,4 @@
-use Rattle.std.proofs.Common.{arith, ◌≡◌, ◌≢◌, ◌≤◌, ◌-◌, length, ◌∷◌, [], None, Some, false, refl, sym, ◌∙◌, length-append}
+use Rattle.std.proofs.Common.{true, arith, ◌≡◌, ◌≢◌, ◌≤◌, ◌-◌, length, ◌∷◌, [], None, Some, false, refl, sym, ◌∙◌, length-append}
 use Rattle.vsm_core.specs.declared.mark.What.TheVariants.{Again}
 use Rattle.vsm_core.specs.Attempt.{attempt}
 use Rattle.vsm_core.specs.Outcomes.{Origin, Outcome}
@@ -40,7 +40,8 @@ invariant_of-self-in-None c =
       room = λ ended. rw all-but-last (room ended);
       running = v.running;
       spins = λ e. spins-on _ i.log.spins (v.spins going) (sym c.ending_on.ensures ∙ c.in-None.is);
+      owing = λ e. let answered : i.owes ≡ false = rw (← c.self.view_is) at c.requires.answered in let no : true ≡ false = sym e ∙ answered in cc;
       waits = λ e. let none : op_of None ≡ Some c.args.op = rw (v.waits e) at op in cc;
       fresh = λ e. let none : op_of None ≡ Some c.args.op = rw (v.waits e) at op in cc;
-      means = begun-under from _ i.log.seen.0 i.log.part _ refl (tidy-begun i.log.part _ from c.args.op c.begin-stage.result _ c.begin-stage.ensures.is c.begin-stage.ensures.rest c.begin-stage.ensures.idle (c.begin-stage.ensures.no_poll c.requires.spins) asks) c.begin-stage.ensures.is c.begin-stage.ensures.rest c.begin-stage.ensures.idle;
+      means = begun-under from _ i.log.seen.0 i.log.part _ refl (tidy-begun i.log.part _ from c.args.op c.begin-stage.result _ c.begin-stage.ensures.is c.begin-stage.ensures.rest c.begin-stage.ensures.idle (c.begin-stage.ensures.no_poll c.requires.spins c.requires.no_call) asks) c.begin-stage.ensures.is c.begin-stage.ensures.rest c.begin-stage.ensures.idle;
     })

@@ -21,6 +21,7 @@ invariant_of-result c = record {
       let runs : ran_out c.len-zero_length.result c.args.limits.now.budget 0 0 ≡ None = sym (rw started at c.opening_ending-ended.ensures) ∙ ended in
       rw (c.opening.ensures.opening, c.opening-2.ensures, rip-opening) (ran_out-none c.len-zero_length.result c.args.limits.now.budget c.requires.budget_some runs);
   spins = λ e. spins-open;
+  owing = λ e. cc;
   waits = λ e. refl;
   fresh = λ e. refl;
   means = (rw c.in_ok-seen.ensures refl, refl);
