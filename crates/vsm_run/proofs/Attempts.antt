@@ -2,6 +2,7 @@
 use Rattle.std.proofs.Common.{◌≡◌, ◌<◌, ◌≤◌, ◌+◌, ◌-◌, ℕ, Bool, true, false, cond, nat_lt, Option, Some, None, IfSome, List, [], ◌∷◌, ◌++◌, fold, take, length, refl, sym, ap, subst, ◌∙◌, length-append, length-take, arith}
 use Rattle.std.proofs.lemmas.Bool.Decides.{nat_tests}
 use Rattle.std.proofs.lemmas.List.{append-nil}
+use Rattle.vsm_base.specs.declared.places.Limits.{Limits}
 use Rattle.vsm_core.specs.declared.event.Event.{Event}
 use Rattle.vsm_core.specs.declared.event.Event.TheVariants as events
 use Rattle.vsm_core.specs.declared.mark.Ending.{Ending}
@@ -13,11 +14,10 @@ use Rattle.vsm_core.specs.declared.mark.What.TheVariants.{Again}
 use Rattle.vsm_core.specs.declared.operation.Op.{Op}
 use Rattle.vsm_core.specs.declared.operation.Program.{Program}
 use Rattle.vsm_core.specs.Outcomes.{Outcome}
-use Rattle.vsm_core.specs.declared.journal.Entry.{Entry}
 use Rattle.vsm_core.specs.declared.partition_state.PartitionState.{PartitionState}
 use Rattle.vsm_core.specs.declared.request.Reply.{Reply}
 use Rattle.vsm_core.specs.declared.request.Request.{Request}
-use Rattle.vsm_core.specs.Processor.{Vp, Did, IsSameProcessor, saw, came_to, marked_or_ended, or_else, ran_out, stopped_by, spun_out, length_of, ending_after, standing, settled, did_at, did_stop, operation_at, origin_of, tree_of}
+use Rattle.vsm_core.specs.Processor.{Vp, Did, IsSameProcessor, saw, came_to, marked_or_ended, or_else, ran_out, stopped_by, spun_out, length_of, ending_after, standing, settled, did_at, operation_at, origin_of, tree_of}
 use Rattle.vsm_core.specs.Served.{answer, block, joined}
 use Rattle.vsm_core.specs.State.{State, rip_of}
 use Rattle.vsm_core.specs.Tree.{Tree, Ends, Asks, Wants}
@@ -36,22 +36,23 @@ pub record AddsFew (stood : List Mark) (marks : List Mark) : Type 0 where
   pub few : length marks ≤ length stood + 1
 
 -- what the events of an attempt keep
-record Sees (v n : Vp) : Type 0 where
-  limits : n.limits ≡ v.limits
-  state : n.state ≡ v.state
-  stood : standing n ≡ standing v
-  ended : n.ended ≡ v.ended
-  owes : n.owes ≡ v.owes
+pub record Sees (v n : Vp) : Type 0 where
+  pub number : n.number ≡ v.number
+  pub limits : n.limits ≡ v.limits
+  pub state : n.state ≡ v.state
+  pub stood : standing n ≡ standing v
+  pub ended : n.ended ≡ v.ended
+  pub owes : n.owes ≡ v.owes
 
 saw-sees : (op : Option Op) (v : Vp) (e : Event) → Sees v (saw op v e)
-saw-sees op v (events.Check generation) = record { limits = refl; state = refl; stood = refl; ended = refl; owes = refl }
-saw-sees op v _ = record { limits = refl; state = refl; stood = refl; ended = refl; owes = refl }
+saw-sees op v (events.Check generation) = record { number = refl; limits = refl; state = refl; stood = refl; ended = refl; owes = refl }
+saw-sees op v _ = record { number = refl; limits = refl; state = refl; stood = refl; ended = refl; owes = refl }
 
-fold-saw-sees : (op : Option Op) (v : Vp) (es : List Event) → Sees v (fold (saw op) v es)
-fold-saw-sees op v [] = record { limits = refl; state = refl; stood = refl; ended = refl; owes = refl }
+pub fold-saw-sees : (op : Option Op) (v : Vp) (es : List Event) → Sees v (fold (saw op) v es)
+fold-saw-sees op v [] = record { number = refl; limits = refl; state = refl; stood = refl; ended = refl; owes = refl }
 fold-saw-sees op v (e ∷ es) =
     let h = saw-sees op v e in let g = fold-saw-sees op (saw op v e) es in
-    record { limits = g.limits ∙ h.limits; state = g.state ∙ h.state; stood = g.stood ∙ h.stood; ended = g.ended ∙ h.ended; owes = g.owes ∙ h.owes }
+    record { number = g.number ∙ h.number; limits = g.limits ∙ h.limits; state = g.state ∙ h.state; stood = g.stood ∙ h.stood; ended = g.ended ∙ h.ended; owes = g.owes ∙ h.owes }
 
 one_more : (stood : List Mark) (mark : Mark) → AddsFew stood (stood ++ mark ∷ [])
 one_more stood mark = record { low = simp length-append (omega arith); few = simp length-append (omega arith) }
@@ -89,8 +90,16 @@ marked_or_ended-stands : (v : Vp) (o : Outcome) (ending : Option Ending) → len
 marked_or_ended-stands v o None = again-stands (standing v) _
 marked_or_ended-stands v o (Some ending) = refl
 
+no-less : (n m : ℕ) → n ≡ m → m ≤ n
+no-less n m e = omega arith
+
+still-less : (n m b : ℕ) → n ≡ m → m < b → n < b
+still-less n m b e less = omega arith
+
 came_to-stands : (what : What) (v : Vp) (o : Outcome) → length (standing v) ≤ length (standing (came_to what v o))
-came_to-stands (Again grant) v o = let e = marked_or_ended-stands v o _ in omega arith
+came_to-stands (Again grant) v o =
+    let ending = ending_after v o.what o.state (length (standing v)) (v.spins + 1) in
+    no-less (length (standing (marked_or_ended v o ending))) (length (standing v)) (marked_or_ended-stands v o ending)
 came_to-stands _ v o = simp length-append (omega arith)
 
 -- a hypercall's result leaves a mark that stays
@@ -121,7 +130,7 @@ ending-none v what state marks spins e =
     ran_out-none (length_of v state.active) v.limits.budget (rip_of state) marks (or_else-none out (spun_out spins) later.1).0
 
 marked_or_ended-left : (v : Vp) (o : Outcome) (ending : Option Ending) → HasMarkLeft v → HasMarkLeft (marked_or_ended v o ending)
-marked_or_ended-left v o None h = λ e. let less = h e in let same = again-stands (standing v) _ in omega arith
+marked_or_ended-left v o None h = λ e. still-less _ _ _ (again-stands (standing v) _) (h e)
 marked_or_ended-left v o (Some ending) h = λ e. cc
 
 came_to-left : (what : What) (v : Vp) (o : Outcome) → HasMarkLeft v → HasMarkLeft (came_to what v o)
@@ -186,9 +195,9 @@ module _ (P : Vp → Type 0) (s : PartitionState) (v : Vp) (words : List ℕ) (h
   by_settled (Wants q k) = h (k (answer s q))
 
 -- how many entries an attempt adds, and that each is paid for by a mark that stays
-record Pays (stood : List Mark) (did : Did (List ℕ)) : Type 0 where
-  one : length (joined did.served) ≤ 1
-  spends : length (joined did.served) + length stood ≤ length (standing did.vp)
+pub record Pays (stood : List Mark) (did : Did (List ℕ)) : Type 0 where
+  pub one : length (joined did.served) ≤ 1
+  pub spends : length (joined did.served) + length stood ≤ length (standing did.vp)
 
 did_at-pays : (number : ℕ) (s : PartitionState) (v : Vp) (words : List ℕ) (t : Tree Outcome) → Asked (IsOwnRequest number) t → Pays (standing v) (did_at s v words t)
 did_at-pays number s v words (Ends o) own = let le = came_to-stands o.what v o in record { one = omega arith; spends = omega arith }
@@ -225,6 +234,13 @@ module _ (program : Program) (v : Vp) (s : PartitionState) (words : List ℕ) wh
   made_steps-few =
       let stop = stop_of program v words in
       by_settled (λ n. AddsFew (standing v) n.marks) s seen_by stop.words (λ t. subst (λ ms. AddsFew ms (settled t seen_by).marks) sees.stood (settled-few t seen_by)) stop.at
+
+  pub made_steps-stands : length (standing (made_steps program v s words).vp) ≤ length (standing v) + 1
+  made_steps-stands =
+      let n = (made_steps program v s words).vp in
+      let later = stood_later n.again n.marks in
+      let few = made_steps-few.few in
+      omega arith
 
   pub made_steps-pays : Pays (standing v) (made_steps program v s words)
   unfolding made_steps

@@ -1,5 +1,5 @@
 -- What a request comes to: one entry, which takes no step on the words, and no element is done.
-use Rattle.std.proofs.Common.{◌≡◌, ℕ, Option, Some, None, List, [], ◌∷◌, length, drop, refl, ap, ◌∙◌}
+use Rattle.std.proofs.Common.{◌≡◌, Option, Some, None, [], ◌∷◌, length, drop, refl, ap}
 use Rattle.vsm_base.specs.declared.places.VpIndex.{VpIndex}
 use Rattle.vsm_base.specs.declared.places.Vtl.{Vtl}
 use Rattle.vsm_base.specs.declared.status.HvStatus.{HvStatus}

@@ -51,9 +51,9 @@ fn steps_at(fabric: &mut PlainFabric, cpu: &mut Cpu, program: &Program) -> CpuTu
     ensures idle { AllIdle fabric.new.fabric.phases }
 {
     'turns: loop {
-        let turn = turn_at(fabric, cpu, program);
-        if !matches!(turn, CpuTurn::Moved) {
-            return turn;
+        match turn_at(fabric, cpu, program) {
+            CpuTurn::Moved => {}
+            turn => return turn,
         }
     }
 }
@@ -76,12 +76,7 @@ fn serve(partition: &mut Partition, fabric: &mut PlainFabric, request: Request) 
 }
 
 // Lets a processor make its attempt to the end.
-fn attempt_at(
-    fabric: &mut PlainFabric,
-    partition: &mut Partition,
-    cpu: &mut Cpu,
-    program: &Program,
-)
+fn attempt_at(fabric: &mut PlainFabric, partition: &mut Partition, cpu: &mut Cpu, program: &Program)
     requires going { cpu.old.ended ≡ None }
     requires place { IsInPlace fabric.old.limits cpu.old.number cpu.old }
     requires fits { FitsOne program.now cpu.old }
@@ -139,6 +134,7 @@ pub fn act_at(
     ensures lines { lines.new ≡ (lines.old.0 ++ attempt_lines cpu.old.number (made_steps program.now cpu.old partition.old.state fabric.old.fabric.words).served cpu.old cpu.new, lines.old.1) }
     ensures grows { length lines.new.0 ≤ length lines.old.0 + 2 }
     ensures spends { length partition.new.journal.entries + length (standing cpu.old) ≤ length partition.old.journal.entries + length (standing cpu.new) }
+    ensures marks { length (standing cpu.new) ≤ length (standing cpu.old) + 1 }
     ensures limits { fabric.new.limits ≡ fabric.old.limits }
     ensures place { IsInPlace fabric.old.limits cpu.old.number cpu.new }
     ensures fits { FitsOne program.now cpu.new }
