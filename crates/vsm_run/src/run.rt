@@ -160,8 +160,9 @@ fn opened(alloc: Global, script: &Script) -> Result<Run, Memory>
 }
 
 /// The report of a script's run, which is the same whether each attempt is made at once or step by step on the
-/// shared words. A request of an attempt is served at once; each request that is served adds what it adds to the state that those before
-/// it leave, and the journal is theirs and whole. All memory is taken before the first turn; the only error is want of it.
+/// shared words. What an attempt asks of the partition is served at once, in the state that the requests before it leave.
+/// The journal has the entries that these requests add, and is whole. All memory is taken before the first turn; the
+/// only error is want of it.
 pub fn trace(alloc: Global, script: &Script) -> Result<Report, Memory>
     requires { IsWithin script.now }
     ensures at_once { IfOk result (λ report. report ≡ flat script.now) }
