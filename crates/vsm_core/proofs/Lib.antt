@@ -5,6 +5,7 @@ pub mod KeptLevels
 pub mod KeptRefusals
 pub mod KeptRegisters
 pub mod Places
+pub mod Requests
 pub mod SameAnswers
 pub mod ServedBlocks
 pub mod Soundness
