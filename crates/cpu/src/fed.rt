@@ -1,8 +1,10 @@
 // A port that tells no words and answers what it was fed.
-ghost use Rattle.std.specs.Prelude.{◌≡◌, None};
+ghost use Rattle.std.specs.Prelude.{◌≡◌, None, IfOk};
 ghost use Rattle.vsm_core.specs.Seat.{counted};
 
 use fabric::Port;
+use std::alloc::Global;
+use std::test::Fail;
 use vsm_base::{Limits, Mask, Page, VpIndex};
 use vsm_core::{Event, PendingWord, Phase};
 
@@ -87,4 +89,21 @@ impl Port for Fed {
         self.steps = one_more(self.steps);
         bits
     }
+}
+
+/// The port of processor 0 before its first step.
+pub fn new_fed(alloc: Global, limits: Limits, answers: &[u64]) -> Result<Fed, Fail>
+    ensures vp { IfOk result (λ p. p.vp.0 ≡ 0) }
+    ensures limits { IfOk result (λ p. p.limits ≡ limits) }
+    ensures idle { IfOk result (λ p. p.phase ≡ Phase.Idle) }
+{
+    Ok(Fed {
+        vp: VpIndex(0),
+        limits,
+        phase: Phase::Idle,
+        last: None,
+        steps: 0,
+        answers: Vec::from_slice(alloc, answers)?,
+        at: 0,
+    })
 }

@@ -27,9 +27,19 @@ pub use cpu_turn::CpuTurn;
 pub use processor::Cpu;
 
 #[cfg(test)]
+mod eom_tests;
+#[cfg(test)]
 mod fed;
 #[cfg(test)]
+mod hypercall_tests;
+#[cfg(test)]
+mod left;
+#[cfg(test)]
 mod message_tests;
+#[cfg(test)]
+mod poll_tests;
+#[cfg(test)]
+mod runs;
 #[cfg(test)]
 mod switch_tests;
 #[cfg(test)]

@@ -1,7 +1,6 @@
 use super::*;
-use crate::switch_tests::{PAGE_1, Put, machine, mark, programs};
-use crate::tests::{attempts, fed, plain, whats, word};
-use fabric::Port;
+use crate::left::Left;
+use crate::runs::{Opening, PAGE_1, Put, Run, Way, leaves, mark};
 use std::alloc::Global;
 use std::test::Fail;
 use vsm_base::{Access, Gva, Mask, Name, Page, VpIndex, Vtl};
@@ -9,7 +8,7 @@ use vsm_core::{Denial, EomWord, Event, Op, Operand, PendingWord, Posted, What};
 
 /// Level 1's synthetic interrupt controller is on, its message page is page 0, and Sint0 has a vector. Level 1's assist
 /// page is page 1. Level 0 stands at its second operation.
-const OPENING: [Put; 7] = [
+pub const OPENING: [Put; 7] = [
     PAGE_1,
     (Vtl::One, Name::Scontrol, 1),
     (Vtl::One, Name::Simp, 1),
@@ -23,39 +22,37 @@ const OPENING: [Put; 7] = [
     (Vtl::Zero, Name::Rip, 1),
 ];
 
-const STORE: Op = Op::Store(Gva(0x328), Operand::Number(7));
+pub const STORE: Op = Op::Store(Gva(0x328), Operand::Number(7));
 
 /// Level 0 stores at its second operation.
-const STORES: [Op; 3] = [Op::Eom, STORE, Op::Eom];
+pub const STORES: [Op; 3] = [Op::Eom, STORE, Op::Eom];
 
 /// A slot's first word with a message in it.
-const TAKEN: u64 = 0x8000_0001;
+pub const TAKEN: u64 = 0x8000_0001;
 
 /// A generation.
-const ROUND: u64 = 5;
+pub const ROUND: u64 = 5;
 
-/// Level 0 polls at its second operation.
-const POLLS: [Op; 3] = [Op::Eoi, Op::Poll, Op::Eoi];
-
-/// Vector 0x40 is requested for level 1.
-const FOR_ONE: [u64; 9] = [0, 0, 0, 0, 0, 1, 0, 0, ROUND];
-
-/// The processor after so many attempts, where it begins with level 0 and its port answers so.
-fn after(
+/// Makes so many attempts of a processor that begins with level 0 and whose port answers so. These registers are put
+/// after those of the opening.
+pub fn answered<'a>(
     alloc: Global,
-    zero: &[Op],
-    one: &[Op],
-    puts: &[Put],
-    answers: &[u64],
-    count: usize,
-) -> Result<Cpu, Fail> {
-    let program = programs(alloc, zero, one)?;
-    let mut all = Vec::from_slice(alloc, OPENING.as_slice())?;
-    all.extend_from_slice(puts)?;
-    let mut cpu = machine(alloc, &program, Vtl::Zero, all.as_slice())?;
-    let mut port = fed(alloc, answers)?;
-    attempts(&mut cpu, &mut port, &program, count);
-    Ok(cpu)
+    programs: (&'a [Op], &'a [Op]),
+    puts: &'a [Put],
+    answers: &'a [u64],
+    attempts: usize,
+    left: &[Left],
+) -> Result<(), Fail> {
+    let (zero, one) = programs;
+    let run = Run {
+        zero,
+        one,
+        opening: Opening::Both(Vtl::Zero, &OPENING, puts),
+        way: Way::Fed(answers),
+        attempts,
+        turns: 0,
+    };
+    leaves(alloc, &run, left)
 }
 
 /// A page that may be read alone.
@@ -63,7 +60,7 @@ fn read_only() -> Mask {
     Mask::of(1).unwrap_or(Mask::all())
 }
 
-fn denied(posted: Posted) -> What {
+pub fn denied(posted: Posted) -> What {
     What::Denied(Denial {
         page: Page(0),
         mask: read_only(),
@@ -74,7 +71,7 @@ fn denied(posted: Posted) -> What {
 }
 
 /// A word of the message slot is written.
-fn slot(index: u16, value: u64) -> Event {
+pub fn slot(index: u16, value: u64) -> Event {
     Event::Write {
         page: Page(0),
         index,
@@ -83,7 +80,7 @@ fn slot(index: u16, value: u64) -> Event {
 }
 
 /// The first word of the message slot is read.
-fn looked(value: u64) -> Event {
+pub fn looked(value: u64) -> Event {
     Event::Read {
         page: Page(0),
         index: 0,
@@ -92,7 +89,7 @@ fn looked(value: u64) -> Event {
 }
 
 /// The assist page is told that an interrupt or an intercept entered level 1.
-fn told() -> Event {
+pub fn told() -> Event {
     Event::Write {
         page: Page(1),
         index: 1,
@@ -101,7 +98,7 @@ fn told() -> Event {
 }
 
 /// The vector of Sint0 is requested for level 1.
-fn rung() -> Event {
+pub fn rung() -> Event {
     Event::Post {
         vp: VpIndex(0),
         word: PendingWord::Vectors {
@@ -112,7 +109,7 @@ fn rung() -> Event {
     }
 }
 
-fn checked() -> Event {
+pub fn checked() -> Event {
     Event::Check { generation: ROUND }
 }
 
@@ -123,40 +120,8 @@ fn masked() -> Event {
     }
 }
 
-/// The events of a mark, by its place.
-fn events_of(cpu: &Cpu, place: usize) -> Option<&[Event]> {
-    let mark = cpu.marks().get(place)?;
-    let first = mark.first as usize;
-    cpu.seen().get(first..first + mark.count as usize)
-}
-
-/// An event of a mark, by their places.
-fn event_of(cpu: &Cpu, place: usize, index: usize) -> Option<Event> {
-    events_of(cpu, place)?.get(index).copied()
-}
-
-/// How many events a mark has, by its place.
-fn count_of(cpu: &Cpu, place: usize) -> Option<usize> {
-    Some(events_of(cpu, place)?.len())
-}
-
-/// What an end of message came to.
-fn ended(word: EomWord) -> Option<What> {
-    Some(What::Eom(word))
-}
-
-/// A poll has taken this from the words of this level, one after the other.
-fn taken(level: Vtl, part: u8, bits: u64) -> Event {
-    Event::Take {
-        word: PendingWord::Vectors { level, part },
-        bits,
-    }
-}
-
 #[test]
 fn level_one_is_told_of_a_denied_store(rt: HostRuntime) -> Result<(), Fail> {
-    let alloc = rt.alloc();
-    let cpu = after(alloc, &STORES, &[Op::Eom; 2], &[], &[ROUND, 1, 0], 2)?;
     let events = [
         Event::Enter,
         checked(),
@@ -178,22 +143,45 @@ fn level_one_is_told_of_a_denied_store(rt: HostRuntime) -> Result<(), Fail> {
         told(),
         Event::Leave,
     ];
-    assert_eq!(rt; cpu.seen(), events.as_slice());
-    let left = mark(Vtl::Zero, 1, denied(Posted::Slot), 19);
-    assert_eq!(rt; cpu.marks().first().copied(), Some(left));
-    // No note waits.
-    let ends = whats(alloc, cpu.marks())?;
-    assert_eq!(rt; ends.get(1).copied(), ended(EomWord::Nothing));
-    assert_eq!(rt; cpu.levels().active(), Vtl::One);
-    assert_eq!(rt; cpu.bank().get(Vtl::Zero, Name::Rip), 1);
-    assert_eq!(rt; cpu.ended(), None);
-    Ok(())
+    let left = [
+        Left::Seen(&events),
+        Left::Mark(0, mark(Vtl::Zero, 1, denied(Posted::Slot), 19)),
+        // No note waits.
+        Left::What(1, What::Eom(EomWord::Nothing)),
+        Left::Active(Vtl::One),
+        Left::Register(Vtl::Zero, Name::Rip, 1),
+        Left::Ended(None),
+    ];
+    answered(
+        rt.alloc(),
+        (&STORES, &[Op::Eom; 2]),
+        &[],
+        &[ROUND, 1, 0],
+        2,
+        &left,
+    )
+}
+
+#[test]
+fn a_walk_that_is_denied_at_its_end_has_27_events(rt: HostRuntime) -> Result<(), Fail> {
+    let zero = [Op::Eoi, Op::Exec(Gva(0x328)), Op::Eoi];
+    let puts = [(Vtl::Zero, Name::Cr0, 0x8000_0001)];
+    let answers = [ROUND, 15, 0x1007, 15, 0x1007, 15, 0x1007, 15, 0x1007, 1, 0];
+    let left = [
+        Left::Count(1),
+        Left::Many(0, 27),
+        Left::Event(0, 11, looked(0)),
+        Left::Event(0, 14, slot(2, 0x0000_0200_0000_0000)),
+        // The address of the operation, and the guest physical address that was denied.
+        Left::Event(0, 20, slot(8, 0x328)),
+        Left::Event(0, 21, slot(9, 0x1328)),
+        Left::Active(Vtl::One),
+    ];
+    answered(rt.alloc(), (&zero, &[Op::Eom]), &puts, &answers, 1, &left)
 }
 
 #[test]
 fn a_note_waits_where_the_slot_is_taken(rt: HostRuntime) -> Result<(), Fail> {
-    let alloc = rt.alloc();
-    let cpu = after(alloc, &STORES, &[Op::Eom], &[], &[ROUND, 1, TAKEN], 1)?;
     let events = [
         Event::Enter,
         checked(),
@@ -203,40 +191,156 @@ fn a_note_waits_where_the_slot_is_taken(rt: HostRuntime) -> Result<(), Fail> {
         told(),
         Event::Leave,
     ];
-    assert_eq!(rt; cpu.seen(), events.as_slice());
-    let left = mark(Vtl::Zero, 1, denied(Posted::Waiting), 7);
-    assert_eq!(rt; cpu.marks(), [left].as_slice());
-    assert_eq!(rt; cpu.levels().active(), Vtl::One);
+    let left = [
+        Left::Seen(&events),
+        Left::Marks(&[mark(Vtl::Zero, 1, denied(Posted::Waiting), 7)]),
+        Left::Active(Vtl::One),
+    ];
+    answered(
+        rt.alloc(),
+        (&STORES, &[Op::Eom]),
+        &[],
+        &[ROUND, 1, TAKEN],
+        1,
+        &left,
+    )
+}
+
+#[test]
+fn a_note_waits_behind_an_older_one(rt: HostRuntime) -> Result<(), Fail> {
+    // The first note waits since the page is off. Then level 1 turns it on and returns.
+    let ops = [
+        Op::Set(Name::Scontrol, 1),
+        Op::Set(Name::Simp, 1),
+        Op::VtlReturn,
+        Op::Eom,
+    ];
+    let puts = [
+        (Vtl::One, Name::Scontrol, 0),
+        (Vtl::One, Name::Simp, 0),
+        (Vtl::Zero, Name::Rcx, 1),
+    ];
+    let whats = [
+        denied(Posted::Waiting),
+        What::Plain,
+        What::Plain,
+        What::Plain,
+        denied(Posted::Waiting),
+    ];
+    let events = [
+        Event::Enter,
+        checked(),
+        masked(),
+        told(),
+        Event::Leave,
+        Event::Enter,
+        checked(),
+        masked(),
+        looked(0),
+        told(),
+        Event::Leave,
+    ];
+    let left = [
+        Left::Whats(&whats),
+        Left::Seen(&events),
+        Left::Span(0, 0, 5),
+        Left::Span(4, 5, 6),
+        Left::Active(Vtl::One),
+    ];
+    answered(
+        rt.alloc(),
+        (&STORES, &ops),
+        &puts,
+        &[ROUND, 1, ROUND, 1, 0],
+        5,
+        &left,
+    )
+}
+
+#[test]
+fn a_note_waits_where_the_page_is_off(rt: HostRuntime) -> Result<(), Fail> {
+    let left = [
+        Left::Seen(&[Event::Enter, checked(), masked(), told(), Event::Leave]),
+        Left::Whats(&[denied(Posted::Waiting), What::Eom(EomWord::Waiting)]),
+    ];
+    for put in [
+        (Vtl::One, Name::Scontrol, 0),
+        (Vtl::One, Name::Simp, 0),
+        (Vtl::One, Name::Simp, 0x2001),
+    ] {
+        let puts = [put];
+        answered(
+            rt.alloc(),
+            (&STORES, &[Op::Eom]),
+            &puts,
+            &[ROUND, 1],
+            2,
+            &left,
+        )?;
+    }
     Ok(())
 }
 
 #[test]
-fn a_poll_enters_level_one_for_its_vector(rt: HostRuntime) -> Result<(), Fail> {
-    let alloc = rt.alloc();
-    let one = [Op::Ack(Name::Rbx), Op::Ack(Name::Rdx), Op::Eoi];
-    let puts = [(Vtl::One, Name::Rdx, 7)];
-    let cpu = after(alloc, &POLLS, &one, &puts, &FOR_ONE, 3)?;
-    let events = [
-        taken(Vtl::Zero, 0, 0),
-        taken(Vtl::Zero, 1, 0),
-        taken(Vtl::Zero, 2, 0),
-        taken(Vtl::Zero, 3, 0),
-        taken(Vtl::One, 0, 0),
-        taken(Vtl::One, 1, 1),
-        taken(Vtl::One, 2, 0),
-        taken(Vtl::One, 3, 0),
-        Event::Enter,
-        checked(),
-        told(),
-        Event::Leave,
+fn no_vector_is_requested_where_sint0_has_none(rt: HostRuntime) -> Result<(), Fail> {
+    let left = [
+        Left::Marks(&[mark(Vtl::Zero, 1, denied(Posted::Slot), 18)]),
+        Left::Event(0, 15, slot(11, 0)),
+        Left::Event(0, 16, told()),
     ];
-    assert_eq!(rt; cpu.seen(), events.as_slice());
-    let wanted = [What::Entered, What::Value(0x40), What::Value(0)];
-    assert_eq!(rt; whats(alloc, cpu.marks())?.as_slice(), wanted.as_slice());
-    assert_eq!(rt; cpu.levels().active(), Vtl::One);
-    let bank = cpu.bank();
-    assert_eq!(rt; bank.get(Vtl::Zero, Name::Rip), 2);
-    assert_eq!(rt; bank.get(Vtl::One, Name::Rbx), 0x40);
-    assert_eq!(rt; bank.get(Vtl::One, Name::Rdx), 0);
+    for sint in [0x1_0031, 0x0F] {
+        let puts = [(Vtl::One, Name::Sint0, sint)];
+        answered(
+            rt.alloc(),
+            (&STORES, &[Op::Eom]),
+            &puts,
+            &[ROUND, 1, 0],
+            1,
+            &left,
+        )?;
+    }
     Ok(())
+}
+
+#[test]
+fn nothing_is_told_where_both_pages_are_off(rt: HostRuntime) -> Result<(), Fail> {
+    let puts = [
+        (Vtl::One, Name::VpAssistPage, 0),
+        (Vtl::One, Name::Scontrol, 0),
+    ];
+    let left = [
+        Left::Seen(&[Event::Enter, checked(), masked(), Event::Leave]),
+        Left::Marks(&[mark(Vtl::Zero, 1, denied(Posted::Waiting), 4)]),
+        Left::Active(Vtl::One),
+    ];
+    answered(
+        rt.alloc(),
+        (&STORES, &[Op::Eom]),
+        &puts,
+        &[ROUND, 1],
+        1,
+        &left,
+    )
+}
+
+#[test]
+fn level_one_takes_the_vector_of_its_message(rt: HostRuntime) -> Result<(), Fail> {
+    let run = Run {
+        zero: &STORES,
+        one: &[Op::Poll, Op::Ack(Name::Rbx), Op::Eom, Op::Eoi],
+        opening: Opening::Both(Vtl::Zero, &OPENING, &[]),
+        way: Way::Memory(read_only(), 0, [0, 0]),
+        attempts: 4,
+        turns: 0,
+    };
+    let left = [
+        Left::What(1, What::Plain),
+        Left::What(2, What::Value(0x31)),
+        Left::What(3, What::Eom(EomWord::Nothing)),
+        Left::Word(0, 0x0000_0050_8000_0001),
+        Left::Word(8, 0x328),
+        Left::Word(0x65, 0),
+        Left::Word(513, 2),
+    ];
+    leaves(rt.alloc(), &run, &left)
 }

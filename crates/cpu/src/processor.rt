@@ -403,6 +403,7 @@ impl Cpu {
         ensures accepted { AcceptsBy (rest_of self.old self.old.op) reply self.old self.new result }
         ensures rests { self.new.first ≡ length self.new.seen }
         ensures seen { self.new.seen ≡ self.old.seen }
+        ensures phase { phase_at self.new.seen self.new.first ≡ phase_at self.old.seen self.old.first }
         ensures short { All IsShort (new_marks self.old self.new) }
         ensures same { IsSameProcessor self.old self.new }
         ensures idle { self.new.op ≡ None }

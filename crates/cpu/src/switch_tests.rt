@@ -1,174 +1,213 @@
-ghost use Rattle.std.specs.Prelude.{◌≡◌, get_or, IfOk, IfSome, None};
-ghost use Rattle.cpu.specs.Turns.{VpServes, Fits, phase_at};
-
 use super::*;
-use crate::tests::{LIMITS, attempt, attempts, plain, processor, word};
-use fabric::{PlainFabric, Port};
-use register_file::{Bank, Context};
+use crate::left::Left;
+use crate::runs::{Answer, Opening, PAGE_1, Put, Run, Way, leaves, mark};
 use std::alloc::Global;
 use std::test::Fail;
-use vsm_base::{Items, Mask, Name, Page, VpIndex, Vtl};
-use vsm_core::{Ending, Event, GuestFault, Mark, Op, Phase, Program, What};
-use vtl_state::Levels;
-
-/// A register of a level, and a value.
-pub type Put = (Vtl, Name, u128);
-
-/// Level 1's assist page is page 1, and is on.
-pub const PAGE_1: Put = (Vtl::One, Name::VpAssistPage, 0x1001);
+use vsm_base::{Mask, Name, Page, Vtl};
+use vsm_core::{Ending, Event, GuestFault, Op, What};
 
 /// Why a processor at an operation that is undefined there ends.
 const UNDEFINED: GuestFault = GuestFault::Undefined;
 
-/// What an attempt at a switch leaves: its only mark, the ending, the active level, and where a level stands.
-type Tried = (Option<Mark>, Option<Ending>, Vtl, u128);
-
-pub fn programs(alloc: Global, zero: &[Op], one: &[Op]) -> Result<Program, Fail> {
-    Ok(Program {
-        zero: Items::from_vec(Vec::from_slice(alloc, zero)?),
-        one: Items::from_vec(Vec::from_slice(alloc, one)?),
-    })
-}
-
-/// The processor with level 1 enabled, these registers, and this level active.
-fn placed(cpu: Cpu, level: Vtl, puts: &[Put]) -> Option<Cpu>
-    ensures state { IfSome result (λ now. now ≡ record cpu { state = now.state }) }
-    ensures idle { IfSome result (λ now. now.op ≡ None) }
-{
-    let mut bank = Bank::opening();
-    let mut levels = Levels::opening();
-    let context = Context::read(&[0; 28]).ok()?;
-    levels.enable(&mut bank, Vtl::One, &context).ok()?;
-    for (level, name, value) in puts {
-        bank.put(*level, *name, *value).ok()?;
-    }
-    if levels.enabled(level) {
-        levels.begin_at(level);
-    }
-    cpu.with_state(bank, levels)
-}
-
-pub fn machine(alloc: Global, program: &Program, level: Vtl, puts: &[Put]) -> Result<Cpu, Fail>
-    ensures fits { IfOk result (λ cpu. Fits program.now cpu) }
-    ensures number { IfOk result (λ cpu. cpu.number ≡ 0) }
-    ensures limits { IfOk result (λ cpu. cpu.limits ≡ LIMITS) }
-    ensures idle { IfOk result (λ cpu. phase_at cpu.seen cpu.first ≡ Phase.Idle) }
-{
-    let cpu = processor(alloc, true, program)?;
-    match placed(cpu, level, puts) {
-        Some(cpu) => Ok(cpu),
-        None => Err("a processor with level 1".into()),
-    }
-}
-
-/// Words of 7, but for what a return takes from page 1.
-fn assisted(alloc: Global, rax: u64, rcx: u64) -> Result<PlainFabric, Fail>
-    ensures limits { IfOk result (λ f. f.limits ≡ LIMITS) }
-    ensures idle { IfOk result (λ f. get_or f.fabric.phases 0 Phase.Idle ≡ Phase.Idle) }
-{
-    let masks = vec![in alloc; Mask::all(); 2]?;
-    let mut words = vec![in alloc; 7; 1024]?;
-    words[514] = rax;
-    words[515] = rcx;
-    Ok(PlainFabric::new(alloc, &LIMITS, &masks, &words)?)
-}
-
-/// A mark of an attempt of level 0 or 1 that stood there.
-pub fn mark(level: Vtl, rip: u64, what: What, count: u32) -> Mark {
-    Mark {
-        level,
-        rip,
-        what,
-        first: 0,
-        count,
-    }
-}
-
-/// The processor after so many attempts, where it begins with this level over words of 7, with its memory and what the
-/// last attempt answered.
-fn ran(
+/// Makes so many attempts of a processor with both levels, where this one begins, over words of 7.
+fn switches<'a>(
     alloc: Global,
-    zero: &[Op],
-    one: &[Op],
+    programs: (&'a [Op], &'a [Op]),
     level: Vtl,
-    puts: &[Put],
-    count: usize,
-) -> Result<(Cpu, PlainFabric, Option<CpuTurn>), Fail> {
-    let program = programs(alloc, zero, one)?;
-    let mut cpu = machine(alloc, &program, level, puts)?;
-    let mut fabric = plain(alloc, Mask::all(), 7)?;
-    let mut port = fabric.port(VpIndex(0));
-    let last = attempts(&mut cpu, &mut port, &program, count);
-    Ok((cpu, fabric, last))
-}
-
-/// The processor after level 1 returned to this program of level 0, where page 1 has 0x55 for Rax and 0x66 for Rcx, and
-/// what that attempt answered.
-fn returned(alloc: Global, zero: &[Op], puts: &[Put]) -> Result<(Cpu, Option<CpuTurn>), Fail> {
-    let program = programs(alloc, zero, &[Op::VtlReturn])?;
-    let mut cpu = machine(alloc, &program, Vtl::One, puts)?;
-    let mut fabric = assisted(alloc, 0x55, 0x66)?;
-    let mut port = fabric.port(VpIndex(0));
-    let last = attempt(&mut cpu, &mut port, &program);
-    Ok((cpu, last))
-}
-
-/// The same after a first call of a processor whose level 1 is not enabled.
-fn called_too_early(alloc: Global) -> Result<(Cpu, Option<CpuTurn>), Fail> {
-    let program = programs(alloc, &[Op::VtlCall], &[Op::Jump(0)])?;
-    let mut cpu = processor(alloc, true, &program)?;
-    let mut fabric = plain(alloc, Mask::all(), 7)?;
-    let mut port = fabric.port(VpIndex(0));
-    let last = attempt(&mut cpu, &mut port, &program);
-    Ok((cpu, last))
-}
-
-/// The processor after two calls and two returns, with this in level 1's assist page register.
-fn with_assist(alloc: Global, assist: u128) -> Result<Cpu, Fail> {
-    let puts = [(Vtl::One, Name::VpAssistPage, assist)];
-    let (cpu, _fabric, _last) = ran(
-        alloc,
-        &[Op::VtlCall; 2],
-        &[Op::VtlReturn; 2],
-        Vtl::Zero,
-        &puts,
-        4,
-    )?;
-    Ok(cpu)
-}
-
-/// The one mark that two attempts at an operation leave, the ending, the active level, and where the level stands that
-/// the register was put in and that began.
-fn tried(alloc: Global, op: Op, put: Put) -> Result<Tried, Fail> {
-    let (level, _, _) = put;
-    let (cpu, _fabric, _last) = ran(alloc, &[op], &[op], level, &[PAGE_1, put], 2)?;
-    let only = match cpu.marks() {
-        [only] => Some(*only),
-        _ => None,
+    puts: &'a [Put],
+    attempts: usize,
+    left: &[Left],
+) -> Result<(), Fail> {
+    let (zero, one) = programs;
+    let run = Run {
+        zero,
+        one,
+        opening: Opening::Both(level, puts, &[]),
+        way: Way::Memory(Mask::all(), 7, [7, 7]),
+        attempts,
+        turns: 0,
     };
-    let stands = cpu.bank().get(level, Name::Rip);
-    Ok((only, cpu.ended(), cpu.levels().active(), stands))
+    leaves(alloc, &run, left)
 }
 
-/// What is left where a level's switch was refused as undefined.
-fn refused(level: Vtl) -> Tried {
-    let only = mark(level, 0, What::Fault(UNDEFINED), 0);
-    (Some(only), Some(Ending::Fault(UNDEFINED)), level, 0)
+/// Makes a return to this program of level 0, where page 1 has 0x55 for RAX and 0x66 for RCX.
+fn returns<'a>(alloc: Global, zero: &'a [Op], puts: &'a [Put], left: &[Left]) -> Result<(), Fail> {
+    let run = Run {
+        zero,
+        one: &[Op::VtlReturn],
+        opening: Opening::Both(Vtl::One, puts, &[]),
+        way: Way::Memory(Mask::all(), 7, [0x55, 0x66]),
+        attempts: 1,
+        turns: 0,
+    };
+    leaves(alloc, &run, left)
+}
+
+/// Fails unless two calls and two returns make no step, with this in level 1's assist page register. The last return
+/// leads behind the end of level 0's program.
+fn makes_no_step(alloc: Global, assist: u128) -> Result<(), Fail> {
+    let zero = [Op::VtlCall; 2];
+    let one = [Op::VtlReturn; 2];
+    let puts = [(Vtl::One, Name::VpAssistPage, assist)];
+    let marks = [
+        mark(Vtl::Zero, 0, What::Plain, 0),
+        mark(Vtl::One, 0, What::Plain, 0),
+        mark(Vtl::Zero, 1, What::Plain, 0),
+        mark(Vtl::One, 1, What::Plain, 0),
+    ];
+    let left = [
+        Left::Marks(&marks),
+        Left::Seen(&[]),
+        Left::Ended(Some(Ending::Done)),
+    ];
+    switches(alloc, (&zero, &one), Vtl::Zero, &puts, 4, &left)
+}
+
+/// Fails unless the only mark of the operation is its refusal as undefined, where the level begins that the register is
+/// put in.
+fn is_undefined(alloc: Global, op: Op, put: Put) -> Result<(), Fail> {
+    let (level, _, _) = put;
+    let ops = [op];
+    let puts = [PAGE_1, put];
+    let left = [
+        Left::Marks(&[mark(level, 0, What::Fault(UNDEFINED), 0)]),
+        Left::Ended(Some(Ending::Fault(UNDEFINED))),
+        Left::Active(level),
+        Left::Register(level, Name::Rip, 0),
+    ];
+    switches(alloc, (&ops, &ops), level, &puts, 2, &left)
+}
+
+#[test]
+fn a_call_tells_why_it_enters(rt: HostRuntime) -> Result<(), Fail> {
+    let zero = [Op::VtlCall];
+    let one = [Op::Eoi, Op::Jump(2)];
+    let puts = [PAGE_1, (Vtl::One, Name::Rip, 1)];
+    let events = [
+        Event::Enter,
+        Event::Check { generation: 0 },
+        Event::Write {
+            page: Page(1),
+            index: 1,
+            value: 1,
+        },
+        Event::Leave,
+    ];
+    let left = [
+        Left::Last(Answer::Attempt),
+        Left::Seen(&events),
+        Left::Marks(&[mark(Vtl::Zero, 0, What::Plain, 4)]),
+        Left::Active(Vtl::One),
+        Left::Enabled(true),
+        Left::Register(Vtl::Zero, Name::Rip, 1),
+        Left::Register(Vtl::One, Name::Rip, 1),
+    ];
+    switches(rt.alloc(), (&zero, &one), Vtl::Zero, &puts, 1, &left)
+}
+
+#[test]
+fn level_one_goes_on_where_it_stood(rt: HostRuntime) -> Result<(), Fail> {
+    let zero = [Op::VtlCall];
+    let one = [Op::Eoi, Op::Jump(2)];
+    let puts = [PAGE_1, (Vtl::One, Name::Rip, 1)];
+    let left = [
+        Left::Last(Answer::Ended(Ending::Done)),
+        Left::Word(512, 7),
+        Left::Word(513, 1),
+        Left::Word(514, 7),
+    ];
+    switches(rt.alloc(), (&zero, &one), Vtl::Zero, &puts, 2, &left)
+}
+
+#[test]
+fn a_return_takes_rax_and_rcx(rt: HostRuntime) -> Result<(), Fail> {
+    let puts = [PAGE_1, (Vtl::Zero, Name::Rip, 1), (Vtl::Zero, Name::Rax, 5)];
+    let page = Page(1);
+    let events = [
+        Event::Enter,
+        Event::Check { generation: 0 },
+        Event::Read {
+            page,
+            index: 2,
+            value: 0x55,
+        },
+        Event::Read {
+            page,
+            index: 3,
+            value: 0x66,
+        },
+        Event::Leave,
+    ];
+    let left = [
+        Left::Last(Answer::Attempt),
+        Left::Seen(&events),
+        Left::Marks(&[mark(Vtl::One, 0, What::Plain, 5)]),
+        Left::Active(Vtl::Zero),
+        Left::Register(Vtl::Zero, Name::Rax, 0x55),
+        Left::Register(Vtl::Zero, Name::Rcx, 0x66),
+        Left::Register(Vtl::Zero, Name::Rip, 1),
+        Left::Register(Vtl::One, Name::Rip, 1),
+    ];
+    returns(rt.alloc(), &[Op::Eoi; 2], &puts, &left)
+}
+
+#[test]
+fn a_fast_return_takes_nothing(rt: HostRuntime) -> Result<(), Fail> {
+    let puts = [PAGE_1, (Vtl::One, Name::Rcx, 1)];
+    let left = [
+        Left::Last(Answer::Attempt),
+        Left::Seen(&[]),
+        Left::Active(Vtl::Zero),
+        Left::Register(Vtl::Zero, Name::Rax, 0),
+        Left::Register(Vtl::Zero, Name::Rcx, 1),
+    ];
+    returns(rt.alloc(), &[Op::Eoi], &puts, &left)
+}
+
+#[test]
+fn no_step_is_made_without_the_page(rt: HostRuntime) -> Result<(), Fail> {
+    for assist in [0, 0x1000, 0x2001] {
+        makes_no_step(rt.alloc(), assist)?;
+    }
+    Ok(())
 }
 
 #[test]
 fn a_call_may_lead_to_the_end(rt: HostRuntime) -> Result<(), Fail> {
-    let calls = [Op::VtlCall, Op::VtlCall];
-    let (_cpu, _fabric, last) = ran(rt.alloc(), &calls, &[], Vtl::Zero, &[], 1)?;
-    assert_eq!(rt; last, Some(CpuTurn::Ended(Ending::Done)));
+    let zero = [Op::VtlCall; 2];
+    let left = [Left::Last(Answer::Ended(Ending::Done))];
+    switches(rt.alloc(), (&zero, &[]), Vtl::Zero, &[], 1, &left)
+}
+
+#[test]
+fn a_switch_that_is_not_lawful_is_undefined(rt: HostRuntime) -> Result<(), Fail> {
+    let user = 3 << 96;
+    for (op, put) in [
+        (Op::VtlCall, (Vtl::Zero, Name::Cs, user)),
+        (Op::VtlCall, (Vtl::Zero, Name::Rcx, 1)),
+        (Op::VtlCall, (Vtl::One, Name::Rcx, 0)),
+        (Op::VtlReturn, (Vtl::One, Name::Cs, user)),
+        (Op::VtlReturn, (Vtl::One, Name::Rcx, 2)),
+        (Op::VtlReturn, (Vtl::Zero, Name::Rcx, 0)),
+    ] {
+        is_undefined(rt.alloc(), op, put)?;
+    }
     Ok(())
 }
 
 #[test]
 fn a_call_needs_level_one(rt: HostRuntime) -> Result<(), Fail> {
-    let (cpu, last) = called_too_early(rt.alloc())?;
-    let ended = CpuTurn::Ended(Ending::Fault(UNDEFINED));
-    assert_eq!(rt; last, Some(ended));
-    assert!(rt; !cpu.levels().enabled(Vtl::One));
-    Ok(())
+    let run = Run {
+        zero: &[Op::VtlCall],
+        one: &[Op::Jump(0)],
+        opening: Opening::Alone,
+        way: Way::Memory(Mask::all(), 7, [7, 7]),
+        attempts: 1,
+        turns: 0,
+    };
+    let left = [
+        Left::Last(Answer::Ended(Ending::Fault(UNDEFINED))),
+        Left::Enabled(false),
+    ];
+    leaves(rt.alloc(), &run, &left)
 }

@@ -1,21 +1,10 @@
-ghost use Rattle.std.specs.Prelude.{◌≡◌, get_or, IfOk};
-ghost use Rattle.cpu.specs.Turns.{VpServes, Fits, phase_at};
-
 use super::*;
-use crate::fed::Fed;
-use fabric::{Layout, PlainFabric, Port, Steward};
+use crate::left::Left;
+use crate::runs::{Answer, Opening, Run, Way, leaves, mark};
 use std::alloc::Global;
 use std::test::Fail;
-use vsm_base::{Access, Gva, Items, Limits, Mask, Name, Page, VpIndex, Vtl};
-use vsm_core::{
-    Denial, Ending, Grant, GuestFault, Mark, Op, Operand, Phase, Posted, Program, What,
-};
-
-pub const LIMITS: Limits = Limits {
-    vps: 1,
-    pages: 2,
-    budget: 10,
-};
+use vsm_base::{Access, Gva, Mask, Name, Page, Vtl};
+use vsm_core::{Denial, Ending, Grant, GuestFault, Op, Operand, Posted, What};
 
 /// A spin at the first word, and an operation behind it.
 const SPIN: [Op; 2] = [Op::Spin(Gva(0), 7), Op::Get(Name::Rax)];
@@ -23,112 +12,12 @@ const SPIN: [Op; 2] = [Op::Spin(Gva(0), 7), Op::Get(Name::Rax)];
 /// The spin reads 5, 6 and then 7.
 const SPIN_ANSWERS: [u64; 9] = [0, 15, 5, 0, 15, 6, 0, 15, 7];
 
-fn program_of(alloc: Global, ops: &[Op]) -> Result<Program, Fail> {
-    Ok(Program {
-        zero: Items::from_vec(Vec::from_slice(alloc, ops)?),
-        one: Items::new(alloc),
-    })
-}
+/// A spin behind another operation, which reads 5 three times.
+const VAIN: [Op; 2] = [Op::Set(Name::Rbx, 1), Op::Spin(Gva(0), 7)];
 
-pub fn processor(alloc: Global, started: bool, program: &Program) -> Result<Cpu, Fail>
-    ensures fits { IfOk result (λ cpu. Fits program.now cpu) }
-    ensures number { IfOk result (λ cpu. cpu.number ≡ 0) }
-    ensures limits { IfOk result (λ cpu. cpu.limits ≡ LIMITS) }
-    ensures idle { IfOk result (λ cpu. phase_at cpu.seen cpu.first ≡ Phase.Idle) }
-{
-    Ok(Cpu::new(alloc, VpIndex(0), &LIMITS, started, program)?)
-}
+const VAIN_ANSWERS: [u64; 9] = [0, 15, 5, 0, 15, 5, 0, 15, 5];
 
-pub fn plain(alloc: Global, mask: Mask, word: u64) -> Result<PlainFabric, Fail>
-    ensures limits { IfOk result (λ f. f.limits ≡ LIMITS) }
-    ensures idle { IfOk result (λ f. get_or f.fabric.phases 0 Phase.Idle ≡ Phase.Idle) }
-{
-    let masks = vec![in alloc; mask; 2]?;
-    let words = vec![in alloc; word; 512 * LIMITS.pages as usize]?;
-    Ok(PlainFabric::new(alloc, &LIMITS, &masks, &words)?)
-}
-
-/// A memory word of page 0.
-pub fn word(fabric: &PlainFabric, index: usize) -> Option<u64> {
-    let memory = Layout::of(&LIMITS).memory as usize;
-    fabric.words().get(memory.saturating_add(index)).copied()
-}
-
-pub fn fed(alloc: Global, answers: &[u64]) -> Result<Fed, Fail>
-    ensures vp { IfOk result (λ p. p.vp.0 ≡ 0) }
-    ensures limits { IfOk result (λ p. p.limits ≡ LIMITS) }
-    ensures idle { IfOk result (λ p. p.phase ≡ Phase.Idle) }
-{
-    Ok(Fed {
-        vp: VpIndex(0),
-        limits: LIMITS,
-        phase: Phase::Idle,
-        last: None,
-        steps: 0,
-        answers: Vec::from_slice(alloc, answers)?,
-        at: 0,
-    })
-}
-
-/// Makes so many turns, while there is no ending.
-fn turns<P: Port>(cpu: &mut Cpu, port: &mut P, program: &Program, count: usize)
-    requires fits { Fits program.now cpu.old }
-    requires serves { VpServes cpu.old (P.seat port.old) }
-    ensures fits { Fits program.now cpu.new }
-    ensures serves { VpServes cpu.new (P.seat port.new) }
-{
-    'turns: for _ in 0..count {
-        if cpu.ended().is_none() {
-            cpu.turn(port, program);
-        }
-    }
-}
-
-/// Makes turns until one doesn't answer that the attempt goes on, at most so many.
-pub fn attempt<P: Port>(cpu: &mut Cpu, port: &mut P, program: &Program) -> Option<CpuTurn>
-    requires fits { Fits program.now cpu.old }
-    requires serves { VpServes cpu.old (P.seat port.old) }
-    ensures fits { Fits program.now cpu.new }
-    ensures serves { VpServes cpu.new (P.seat port.new) }
-{
-    'turns: for _ in 0..28 {
-        if cpu.ended().is_some() {
-            return None;
-        }
-        match cpu.turn(port, program) {
-            CpuTurn::Moved => {}
-            turn => return Some(turn),
-        }
-    }
-    None
-}
-
-/// Makes so many attempts, and says what the last one answered.
-pub fn attempts<P: Port>(
-    cpu: &mut Cpu,
-    port: &mut P,
-    program: &Program,
-    count: usize,
-) -> Option<CpuTurn>
-    requires fits { Fits program.now cpu.old }
-    requires serves { VpServes cpu.old (P.seat port.old) }
-    ensures fits { Fits program.now cpu.new }
-    ensures serves { VpServes cpu.new (P.seat port.new) }
-{
-    let mut last = None;
-    'attempts: for _ in 0..count {
-        last = attempt(cpu, port, program);
-    }
-    last
-}
-
-pub fn whats(alloc: Global, marks: &[Mark]) -> Result<Vec<What>, Fail> {
-    let mut whats = Vec::new(alloc);
-    for mark in marks {
-        whats.push(mark.what)?;
-    }
-    Ok(whats)
-}
+const UNDEFINED: Ending = Ending::Fault(GuestFault::Undefined);
 
 fn grant(value: u64) -> Grant {
     Grant {
@@ -140,88 +29,270 @@ fn grant(value: u64) -> Grant {
     }
 }
 
-/// The processor after so many attempts over a fabric of this mask and these words, and that fabric.
-fn ran(
+fn granted(value: u64) -> What {
+    What::Granted(grant(value))
+}
+
+/// Makes so many attempts of level 0 over memory of this mask and this word.
+fn over(
     alloc: Global,
+    ops: &[Op],
     mask: Mask,
     word: u64,
-    ops: &[Op],
-    count: usize,
-) -> Result<(Cpu, PlainFabric), Fail> {
-    let program = program_of(alloc, ops)?;
-    let mut fabric = plain(alloc, mask, word)?;
-    let mut cpu = processor(alloc, true, &program)?;
-    let mut port = fabric.port(VpIndex(0));
-    attempts(&mut cpu, &mut port, &program, count);
-    Ok((cpu, fabric))
+    attempts: usize,
+    left: &[Left],
+) -> Result<(), Fail> {
+    let run = Run {
+        zero: ops,
+        one: &[],
+        opening: Opening::Alone,
+        way: Way::Memory(mask, word, [word, word]),
+        attempts,
+        turns: 0,
+    };
+    leaves(alloc, &run, left)
 }
 
-/// The processor after so many attempts whose port answers so, and what the last one answered.
-fn answered(
+/// Makes so many attempts of level 0 whose port answers so.
+fn answered<'a>(
     alloc: Global,
-    started: bool,
-    ops: &[Op],
-    answers: &[u64],
-    count: usize,
-) -> Result<(Cpu, Option<CpuTurn>), Fail> {
-    let program = program_of(alloc, ops)?;
-    let mut cpu = processor(alloc, started, &program)?;
-    let mut port = fed(alloc, answers)?;
-    let last = attempts(&mut cpu, &mut port, &program, count);
-    Ok((cpu, last))
+    ops: &'a [Op],
+    answers: &'a [u64],
+    attempts: usize,
+    left: &[Left],
+) -> Result<(), Fail> {
+    let run = Run {
+        zero: ops,
+        one: &[],
+        opening: Opening::Alone,
+        way: Way::Fed(answers),
+        attempts,
+        turns: 0,
+    };
+    leaves(alloc, &run, left)
 }
 
-/// The processor after one attempt of the spin, so many turns and then so many attempts, and what the last of these
-/// answered.
-fn turned(alloc: Global, count: usize, more: usize) -> Result<(Cpu, Option<CpuTurn>), Fail> {
-    let program = program_of(alloc, &SPIN)?;
-    let mut cpu = processor(alloc, true, &program)?;
-    let mut port = fed(alloc, &SPIN_ANSWERS)?;
-    attempts(&mut cpu, &mut port, &program, 1);
-    turns(&mut cpu, &mut port, &program, count);
-    let last = attempts(&mut cpu, &mut port, &program, more);
-    Ok((cpu, last))
+/// Makes so many attempts of the spin, and then so many turns.
+fn spins(alloc: Global, attempts: usize, turns: usize, left: &[Left]) -> Result<(), Fail> {
+    let run = Run {
+        zero: &SPIN,
+        one: &[],
+        opening: Opening::Alone,
+        way: Way::Fed(&SPIN_ANSWERS),
+        attempts,
+        turns,
+    };
+    leaves(alloc, &run, left)
 }
 
-/// The same after so many attempts of a processor that has spun two times less than it may.
-fn spun(alloc: Global, count: usize) -> Result<(Cpu, Option<CpuTurn>), Fail> {
-    let program = program_of(alloc, &[Op::Set(Name::Rbx, 1), Op::Spin(Gva(0), 7)])?;
-    let cpu = processor(alloc, true, &program)?;
-    let mut cpu = cpu.after_spins(19_999_998);
-    let mut port = fed(alloc, &[0, 15, 5, 0, 15, 5, 0, 15, 5])?;
-    let last = attempts(&mut cpu, &mut port, &program, count);
-    Ok((cpu, last))
+/// Makes so many attempts of a processor that has spun two times less than it may.
+fn spins_on(alloc: Global, attempts: usize, left: &[Left]) -> Result<(), Fail> {
+    let run = Run {
+        zero: &VAIN,
+        one: &[],
+        opening: Opening::NearlySpun,
+        way: Way::Fed(&VAIN_ANSWERS),
+        attempts,
+        turns: 0,
+    };
+    leaves(alloc, &run, left)
 }
 
-/// What the first attempt answers after a start was posted, and the fabric then.
-fn posted(alloc: Global, ops: &[Op]) -> Result<(Option<CpuTurn>, PlainFabric), Fail> {
-    let program = program_of(alloc, ops)?;
-    let mut fabric = plain(alloc, Mask::all(), 0)?;
-    let mut cpu = processor(alloc, false, &program)?;
-    fabric.steward().post(VpIndex(0));
-    let mut port = fabric.port(VpIndex(0));
-    let last = attempt(&mut cpu, &mut port, &program);
-    Ok((last, fabric))
+/// Makes so many attempts of a processor that waits, whose second look finds a start.
+fn waits(alloc: Global, attempts: usize, left: &[Left]) -> Result<(), Fail> {
+    let run = Run {
+        zero: &[Op::Get(Name::Rax)],
+        one: &[],
+        opening: Opening::Waiting,
+        way: Way::Fed(&[0, 1]),
+        attempts,
+        turns: 0,
+    };
+    leaves(alloc, &run, left)
 }
 
-/// How many marks eleven attempts at an operation leave, and the ending.
-fn outcome(alloc: Global, op: Op) -> Result<(usize, Option<Ending>), Fail> {
-    let (cpu, _fabric) = ran(alloc, Mask::all(), 0, &[op], 11)?;
-    Ok((cpu.marks().len(), cpu.ended()))
+/// Fails unless eleven attempts at an operation leave so many marks and end so.
+fn comes_to(alloc: Global, op: Op, count: usize, ended: Ending) -> Result<(), Fail> {
+    let left = [Left::Count(count), Left::Ended(Some(ended))];
+    over(alloc, &[op], Mask::all(), 0, 11, &left)
 }
 
-/// Where a mark's events begin and how many they are, by its place.
-fn span(cpu: &Cpu, place: usize) -> Option<(u32, u32)> {
-    let mark = cpu.marks().get(place)?;
-    Some((mark.first, mark.count))
+#[test]
+fn operations_do_what_they_say(rt: HostRuntime) -> Result<(), Fail> {
+    let ops = [
+        Op::Set(Name::Rax, 0x1234),
+        Op::Get(Name::Rax),
+        Op::Store(Gva(8), Operand::Register(Name::Rax)),
+        Op::Load(Name::Rbx, Gva(8)),
+        Op::Exec(Gva(9)),
+        Op::Spin(Gva(8), 0x1234),
+        Op::JumpNe(Name::Rbx, 0x1234, 0),
+        Op::JumpNe(Name::Rbx, 5, 9),
+        Op::Hypercall,
+        Op::Jump(11),
+        Op::Hypercall,
+        Op::Jump(99),
+    ];
+    let whats = [
+        What::Plain,
+        What::Value(0x1234),
+        granted(0x1234),
+        granted(0x1234),
+        granted(0x1234),
+        granted(0x1234),
+        What::Plain,
+        What::Plain,
+        What::Plain,
+        What::Plain,
+    ];
+    let left = [
+        Left::Whats(&whats),
+        Left::Ended(Some(Ending::Done)),
+        Left::Register(Vtl::Zero, Name::Rip, 99),
+        Left::Register(Vtl::Zero, Name::Rbx, 0x1234),
+        Left::Steps(20),
+        Left::Word(1, 0x1234),
+    ];
+    over(rt.alloc(), &ops, Mask::all(), 0, 10, &left)
+}
+
+#[test]
+fn a_denied_store_writes_nothing(rt: HostRuntime) -> Result<(), Fail> {
+    let mask = Mask::of(1).unwrap_or(Mask::all());
+    let ops = [Op::Store(Gva(0), Operand::Number(7))];
+    let denial = Denial {
+        page: Page(0),
+        mask,
+        generation: 0,
+        access: Access::Write,
+        posted: Posted::Held,
+    };
+    let left = [
+        Left::Whats(&[What::Denied(denial)]),
+        Left::Span(0, 0, 4),
+        Left::Ended(Some(Ending::Held)),
+        Left::Register(Vtl::Zero, Name::Rip, 0),
+        Left::Word(0, 5),
+    ];
+    over(rt.alloc(), &ops, mask, 5, 2, &left)
+}
+
+#[test]
+fn a_fault_and_the_budget_end_it(rt: HostRuntime) -> Result<(), Fail> {
+    for (op, count, ended) in [
+        (Op::Jump(0), 10, Ending::Budget),
+        (Op::Jump(1), 1, Ending::Done),
+        (
+            Op::Load(Name::Rax, Gva(4)),
+            1,
+            Ending::Fault(GuestFault::Align),
+        ),
+        (
+            Op::Load(Name::Rax, Gva(0x2000)),
+            1,
+            Ending::Fault(GuestFault::Unmapped),
+        ),
+        (
+            Op::Set(Name::Cr3, 1 << 64),
+            1,
+            Ending::Fault(GuestFault::Gp),
+        ),
+        (Op::Invlpg(Gva(0)), 1, UNDEFINED),
+    ] {
+        comes_to(rt.alloc(), op, count, ended)?;
+    }
+    Ok(())
+}
+
+#[test]
+fn the_mark_of_a_spin_in_vain_goes_at_the_next_turn(rt: HostRuntime) -> Result<(), Fail> {
+    let left = [
+        Left::Last(Answer::Again),
+        Left::Marks(&[mark(Vtl::Zero, 0, What::Again(grant(5)), 5)]),
+        Left::Standing(0),
+        Left::Steps(5),
+    ];
+    spins(rt.alloc(), 1, 0, &left)?;
+    // The mark goes at the next turn, and the events at the check of the next attempt.
+    spins(rt.alloc(), 1, 1, &[Left::Steps(6), Left::Count(0)])?;
+    spins(rt.alloc(), 1, 2, &[Left::Steps(2)])?;
+    spins(rt.alloc(), 1, 3, &[Left::Steps(3)])?;
+    spins(
+        rt.alloc(),
+        2,
+        0,
+        &[Left::Last(Answer::Again), Left::Steps(5)],
+    )
+}
+
+#[test]
+fn a_spin_leaves_its_last_attempt_alone(rt: HostRuntime) -> Result<(), Fail> {
+    let left = [
+        Left::Last(Answer::Attempt),
+        Left::Whats(&[granted(7)]),
+        Left::Steps(5),
+        Left::Standing(1),
+    ];
+    spins(rt.alloc(), 3, 0, &left)
+}
+
+#[test]
+fn a_spin_in_vain_ends_it(rt: HostRuntime) -> Result<(), Fail> {
+    let spun = [
+        Left::Last(Answer::Ended(Ending::Spun)),
+        Left::Ended(Some(Ending::Spun)),
+        Left::Count(1),
+        Left::Seen(&[]),
+    ];
+    spins_on(rt.alloc(), 1, &[Left::Last(Answer::Attempt)])?;
+    spins_on(rt.alloc(), 2, &[Left::Last(Answer::Again)])?;
+    spins_on(rt.alloc(), 3, &spun)
+}
+
+#[test]
+fn a_walk_has_twelve_steps_or_thirteen(rt: HostRuntime) -> Result<(), Fail> {
+    let ops = [
+        Op::Set(Name::Cr0, 0x8000_0001),
+        Op::Load(Name::Rax, Gva(0)),
+        Op::Store(Gva(0), Operand::Number(1)),
+    ];
+    let answers = [
+        3, 15, 0x1007, 15, 0x1007, 15, 0x1007, 15, 0x1007, 1, 9, 3, 15, 0x1007, 15, 0x1007, 15,
+        0x1007, 15, 0x1007, 1,
+    ];
+    let left = [
+        Left::Count(3),
+        Left::Span(0, 0, 0),
+        Left::Span(1, 0, 13),
+        Left::Span(2, 13, 12),
+        Left::Register(Vtl::Zero, Name::Rax, 9),
+        Left::Ended(Some(Ending::Held)),
+    ];
+    answered(rt.alloc(), &ops, &answers, 3, &left)
+}
+
+#[test]
+fn a_processor_waits_for_its_start(rt: HostRuntime) -> Result<(), Fail> {
+    let idle = [Left::Last(Answer::Idle), Left::Seen(&[])];
+    let ended = [
+        Left::Last(Answer::Ended(UNDEFINED)),
+        Left::Count(1),
+        Left::Steps(1),
+    ];
+    waits(rt.alloc(), 1, &idle)?;
+    waits(rt.alloc(), 2, &ended)
 }
 
 #[test]
 fn a_posted_start_is_taken(rt: HostRuntime) -> Result<(), Fail> {
-    let (last, fabric) = posted(rt.alloc(), &[Op::Get(Name::Rax)])?;
-    let undefined = Ending::Fault(GuestFault::Undefined);
-    assert_eq!(rt; last, Some(CpuTurn::Ended(undefined)));
-    let start = Layout::of(&LIMITS).start as usize;
-    assert_eq!(rt; fabric.words().get(start).copied(), Some(0));
-    Ok(())
+    let run = Run {
+        zero: &[Op::Get(Name::Rax)],
+        one: &[],
+        opening: Opening::Waiting,
+        way: Way::Started,
+        attempts: 1,
+        turns: 0,
+    };
+    let left = [Left::Last(Answer::Ended(UNDEFINED)), Left::Start(0)];
+    leaves(rt.alloc(), &run, &left)
 }

@@ -187,3 +187,34 @@ fn an_element_stands_behind_the_header_and_those_before_it(rt: HostRuntime) {
     assert_eq!(rt; input.element(16, 1018, 4), Err(HvStatus(0x0003)));
     assert_eq!(rt; input.element(65535, 65535, 65535), Err(HvStatus(0x0003)));
 }
+
+/// Whether a call of two pages is refused so before its first step.
+fn is_not_admitted(value: u64, address: u64, status: HvStatus) -> bool {
+    admit(2, value, address) == Err(status)
+}
+
+/// Whether it isn't, and is this call, by its input in memory or in registers.
+fn is_admitted(value: u64, address: u64, call: Call, fast: bool) -> bool {
+    admit(2, value, address) == Ok(Admission { call, fast })
+}
+
+#[test]
+fn a_call_is_judged_by_its_value_and_then_by_its_address(rt: HostRuntime) {
+    let fast = ENABLE_PARTITION_VTL | 1 << 16;
+    assert!(rt; is_not_admitted(0x00FF, 1, HvStatus(0x0002)));
+    assert!(rt; is_not_admitted(ENABLE_VP_VTL | 1 << 16, 1, HvStatus(0x0003)));
+    assert!(rt; is_not_admitted(ENABLE_VP_VTL, 0x2F14, HvStatus(0x0004)));
+    assert!(rt; is_not_admitted(ENABLE_VP_VTL, 0x2F18, HvStatus(0x0003)));
+    assert!(rt; is_not_admitted(ENABLE_VP_VTL, 0x2F10, HvStatus(0x0005)));
+    assert!(rt; is_not_admitted(ENABLE_PARTITION_VTL, 0x1FF8, HvStatus(0x0003)));
+    assert!(rt; is_admitted(ENABLE_VP_VTL, 0x1F10, Call::EnableVpVtl, false));
+    assert!(rt;
+        is_admitted(
+            ENABLE_PARTITION_VTL,
+            0x1FF0,
+            Call::EnablePartitionVtl,
+            false
+        )
+    );
+    assert!(rt; is_admitted(fast, 0x2FFF, Call::EnablePartitionVtl, true));
+}

@@ -1,5 +1,11 @@
 pub mod Bounds
 pub mod Checks
+pub mod KeptAttempts
+pub mod KeptLevels
+pub mod KeptRefusals
+pub mod KeptRegisters
+pub mod Places
+pub mod Requests
 pub mod SameAnswers
 pub mod ServedBlocks
 pub mod Soundness

@@ -335,11 +335,13 @@ module _ (limits : Limits) (number : ℕ) (state : State) (controllers : Control
       reads-sound limits IsOver es (address / 4096) (address % 4096 / 8) (row.header / 8) [] (left_for caller row.code) there few inside (λ fs words within. ((λ e. subst IsIn e within), λ x. requests-sound (made Leaving x ∷ fs) row.code words refl))
 
   behind_input_mask-sound : (level : Vtl) (es : List Event) (address generation : ℕ) (rest : Tree Outcome) → address / 4096 < limits.pages → IsIn (phase_of es) → ((fs : List Event) → IsIn (phase_of fs) → Sound limits IsOver fs rest) → Sound limits IsOver es (behind_input_mask level caller address generation rest)
-  behind_input_mask-sound Zero es address generation rest there inside h =
-      ((inside, there), λ mask.
-      let fs = made (Masking (address / 4096)) mask ∷ es in
-      let r : Refusal = record { page = address / 4096; mask = mask; generation = generation; access = Read; gpa = address } in
-      Sound-cond limits IsOver fs (allows mask Read) rest (refused caller None r []) (λ _. h fs inside) (refused-sound limits number state controllers low fs None r [] inside))
+  behind_input_mask-sound Zero es address generation rest there inside h = (
+    (inside, there),
+    λ mask.
+        let fs = made (Masking (address / 4096)) mask ∷ es in
+        let r : Refusal = record { page = address / 4096; mask = mask; generation = generation; access = Read; gpa = address } in
+        Sound-cond limits IsOver fs (allows mask Read) rest (refused caller None r []) (λ _. h fs inside) (refused-sound limits number state controllers low fs None r [] inside),
+  )
   behind_input_mask-sound One es address generation rest there inside h = h es inside
 
   by_memory-sound : (es : List Event) (row : Row) (address : ℕ) → (address / 4096 < limits.pages) × (address % 4096 / 8 + row.header / 8 ≤ 512) → phase_of es ≡ Idle → Sound limits IsOver es (by_memory caller row address)

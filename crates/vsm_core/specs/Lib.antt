@@ -7,6 +7,7 @@ pub mod Controllers
 pub mod Fills
 pub mod Hypercalls
 pub mod Journal
+pub mod Keeps
 pub mod Messages
 pub mod Outcomes
 pub mod Partition

@@ -13,7 +13,10 @@ mod view;
 
 pub use event::{Event, PendingWord, Phase};
 pub use journal::Entry;
-pub use laws::{attempts_are_short, attempts_are_sound, attempts_are_whole};
+pub use laws::{
+    attempts_are_short, attempts_are_sound, attempts_are_whole, levels_keep_their_registers,
+    refused_calls_keep_the_rest, refused_requests_keep_the_rest, served_journals_are_whole,
+};
 pub use mark::{Denial, Ending, EomWord, Grant, GuestFault, Mark, Posted, What};
 pub use note::{MemNote, Note, RegNote};
 pub use operation::{Op, Operand, Program};

@@ -19,7 +19,7 @@ use Rattle.guest_script.specs.declared.script.Script.{Script}
 use Rattle.guest_script.specs.declared.script.Turns.{Turns}
 use Rattle.vsm_report.specs.declared.report.Report.{Report}
 use Rattle.vsm_report.specs.Acting.{opening_vps, mark_line}
-use Rattle.vsm_report.specs.FlatRun.{acted, opening_flat, opened, flat}
+use Rattle.vsm_report.specs.FlatRun.{acted, opening_flat, opened, closed, flat}
 use Rattle.vsm_report.specs.Opening.{opening_masks, opening_words}
 use Rattle.vsm_report.specs.Schedule.{after_turns, after_line, after_schedule}
 
@@ -58,5 +58,5 @@ record SpinsAndStores (r : Report) : Type 0 where
   word : slice_index r.words 1 ≡ 7
 
 flat-spin_and_store : SpinsAndStores (flat spin_and_store)
-unfolding spin_and_store once only grant mark flat acted opening_flat opened opening_vps opening_masks opening_words after_turns after_line after_schedule attempted opening_state opening_controllers spin_limit Registers.opening_shared Registers.opening_private Registers.opening_value Registers.shared_names Registers.private_names Registers.shared_place Registers.private_place Registers.has_bits Registers.bits_of Names.all_names
+unfolding spin_and_store once only grant mark flat closed acted opening_flat opened opening_vps opening_masks opening_words after_turns after_line after_schedule attempted opening_state opening_controllers spin_limit Registers.opening_shared Registers.opening_private Registers.opening_value Registers.shared_names Registers.private_names Registers.shared_place Registers.private_place Registers.has_bits Registers.bits_of Names.all_names
 flat-spin_and_store = record { lines = refl; marks = refl; events = refl; ends = refl; word = refl }

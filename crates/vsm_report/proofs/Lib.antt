@@ -4,5 +4,7 @@ pub mod Gathering
 pub mod MaskTurns
 pub mod PageWords
 pub mod Processors
+pub mod Requesting
+pub mod Serving
 pub mod Spelling
 pub mod Stepping

@@ -11,8 +11,11 @@ use Rattle.vsm_core.specs.declared.mark.What.{What}
 use Rattle.vsm_core.specs.declared.mark.What.TheVariants.{Again}
 use Rattle.vsm_core.specs.declared.operation.Op.{Op}
 use Rattle.vsm_core.specs.Outcomes.{Outcome}
-use Rattle.vsm_core.specs.Processor.{Vp, IsSameProcessor, saw, came_to, marked_or_ended, settled, stopped_at}
+use Rattle.vsm_core.specs.declared.partition_state.PartitionState.{PartitionState}
+use Rattle.vsm_core.specs.Processor.{Vp, IsSameProcessor, saw, came_to, marked_or_ended, settled, did_at, did_stop}
+use Rattle.vsm_core.specs.Served.{answer}
 use Rattle.vsm_core.specs.Tree.{Tree, Ends, Asks, Wants}
+use Rattle.vsm_core.specs.Whole.{Stop}
 
 same_by : (v u w : Vp) → IsSameProcessor v u → IsSameProcessor u w → IsSameProcessor v w
 same_by v u w h g = record {
@@ -47,9 +50,15 @@ settled-same (Ends o) v = came_to-same o.what v o
 settled-same (Asks s k) v = itself v
 settled-same (Wants q k) v = itself v
 
+did_at-same : {W : Type 0} (s : PartitionState) (v : Vp) (words : W) (t : Tree Outcome) → IsSameProcessor v (did_at s v words t).vp
+did_at-same s v words (Ends o) = settled-same (Ends o) v
+did_at-same s v words (Asks step k) = itself v
+did_at-same s v words (Wants q k) = settled-same (k (answer s q)) v
+
 -- whatever an attempt saw and came to
-pub stopped_at-same : (op : Option Op) (v : Vp) (es : List Event) (at : Tree Outcome) → IsSameProcessor v (stopped_at op v es at)
-stopped_at-same op v es at = same_by v (fold (saw op) v es) _ (fold-saw-same op v es) (settled-same at (fold (saw op) v es))
+pub did_stop-same : {W : Type 0} (s : PartitionState) (op : Option Op) (v : Vp) (stop : Stop Outcome W) → IsSameProcessor v (did_stop s op v stop).vp
+did_stop-same s op v stop =
+    let seen = fold (saw op) v stop.events in same_by v seen _ (fold-saw-same op v stop.events) (did_at-same s seen stop.words stop.at)
 
 -- what holds of each element by its place holds when one is set for which it holds
 pub places-set : {X : Type 0} (P : ℕ → X → Type 0) (xs : List X) (i : ℕ) (y : X) → P i y → ((j : ℕ) (x : X) → slice_get xs j ≡ Some x → P j x) → (j : ℕ) (x : X) → slice_get (slice_set xs i y) j ≡ Some x → P j x

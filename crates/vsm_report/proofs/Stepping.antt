@@ -12,7 +12,12 @@ use Rattle.vsm_core.specs.declared.operation.Program.{Program}
 use Rattle.vsm_core.specs.State.{State}
 use Rattle.vsm_core.specs.Controllers.{Controllers}
 use Rattle.vsm_core.specs.Outcomes.{Outcome, origin_in}
-use Rattle.vsm_core.specs.Processor.{Vp, Did, origin_of, tree_of, operation_at, did_stop, stopped_at, attempted}
+use Rattle.vsm_core.specs.declared.journal.Entry.{Entry}
+use Rattle.vsm_core.specs.declared.partition_state.PartitionState.{PartitionState}
+use Rattle.vsm_core.specs.declared.request.Request.{Request}
+use Rattle.vsm_core.specs.Processor.{Vp, Did, saw, origin_of, tree_of, operation_at, did_at, did_stop, attempted}
+use Rattle.vsm_core.specs.Served.{after, state_after, joined}
+use Rattle.vsm_core.specs.Tree.{Tree, Ends, Asks, Wants}
 use Rattle.vsm_core.specs.Whole.{Flat, Stop, run_on}
 use Rattle.vsm_core.specs.Words.{Holds, SameStop, steps_on, memory_at, posted_at}
 use Rattle.vsm_core.proofs.SameAnswers.{attempt-same}
@@ -20,13 +25,13 @@ use Rattle.guest_script.specs.declared.script.Turns.{Turns}
 use Rattle.guest_script.specs.declared.script.Script.{Script}
 use Rattle.guest_script.specs.Programs.{program_at}
 use Rattle.guest_script.specs.Within.{IsWithin}
-use Rattle.vsm_report.specs.Acting.{opening_vp, opening_vps, is_running, new_lines, with_attempt, acted_at}
+use Rattle.vsm_report.specs.Acting.{first_partition, opening_vp, opening_vps, is_running, attempt_lines, with_attempt, acted_at}
 use Rattle.vsm_report.specs.Schedule.{after_turns, after_entry, after_line, after_schedule}
 use Rattle.vsm_report.specs.Opening.{opening_masks, opening_words}
-use Rattle.vsm_report.specs.FlatRun.{World, acted, opening_flat, opened, report_of, flat}
-use Rattle.vsm_report.specs.Trace.{Stepped, made_steps, stepped, opening_shared, stepped_opening, stepped_report, traced}
+use Rattle.vsm_report.specs.FlatRun.{World, acted, opening_flat, opened, closed, served, report_of, flat}
+use Rattle.vsm_report.specs.Trace.{Kept, Stepped, after_more, made_steps, stepped, opening_shared, stepped_opening, stepped_report, traced}
 use Rattle.vsm_report.proofs.MaskTurns.{length-fold-with_mask}
-use Rattle.vsm_report.proofs.Processors.{stopped_at-same, places-set}
+use Rattle.vsm_report.proofs.Processors.{did_stop-same, places-set}
 
 -- what one processor's turns keep of two worlds in which it acts alike
 turns_alike : {V W : Type 0} (R : V → W → Type 0) (f : V → V) (g : W → W) → ((v : V) (w : W) → R v w → R (f v) (g w)) → (count : ℕ) (v : V) (w : W) → R v w → R (after_turns f count v) (after_turns g count w)
@@ -56,10 +61,17 @@ pub record IsPlaced (limits : Limits) (p : ℕ) (v : Vp) : Type 0 where
   pub number : v.number ≡ p
   pub low : p < limits.vps
 
--- the same processors and lines, and shared words that hold what whole attempts work on
-pub record Alike (limits : Limits) (v : Stepped) (w : World) : Type 0 where
+-- the state and the journal are those of the requests that were served
+pub record Keeps (first : PartitionState) (k : Kept) (served : List (Request × List Entry)) : Type 0 where
+  pub state : k.state ≡ state_after first served
+  pub journal : k.journal ≡ joined served
+
+-- the same processors and lines, what is kept of the partition by the requests that were served, and shared words that
+-- hold what whole attempts work on
+pub record Alike (first : PartitionState) (limits : Limits) (v : Stepped) (w : World) : Type 0 where
   pub vps : v.vps ≡ w.vps
   pub lines : v.lines ≡ w.lines
+  pub kept : Keeps first v.partition w.partition
   pub holds : Holds limits v.words w.words
   pub placed : (p : ℕ) (u : Vp) → slice_get w.vps p ≡ Some u → IsPlaced limits p u
 
@@ -71,50 +83,97 @@ tree-same limits p state controllers (Some op) words flat low h = attempt-same l
 -- two attempts of one processor that come to the same
 record SameDid (limits : Limits) (p : ℕ) (steps : Did (List ℕ)) (whole : Did Flat) : Type 0 where
   vp : steps.vp ≡ whole.vp
+  served : steps.served ≡ whole.served
   holds : Holds limits steps.words whole.words
   placed : IsPlaced limits p whole.vp
 
-did-same : (limits : Limits) (p : ℕ) (op : Option Op) (v : Vp) (steps : Stop Outcome (List ℕ)) (whole : Stop Outcome Flat) → IsPlaced limits p v → SameStop limits steps whole → SameDid limits p (did_stop op v steps) (did_stop op v whole)
-did-same limits p op v steps whole is same =
-    let kept = stopped_at-same op v whole.events whole.at in
+-- what it did beside the words is the same whatever the words are
+record SameBeside {V W : Type 0} (d : Did V) (e : Did W) : Type 0 where
+  vp : d.vp ≡ e.vp
+  served : d.served ≡ e.served
+
+did_at-beside : {V W : Type 0} (s : PartitionState) (u : Vp) (v : V) (w : W) (t : Tree Outcome) → SameBeside (did_at s u v t) (did_at s u w t)
+did_at-beside s u v w (Ends o) = record { vp = refl; served = refl }
+did_at-beside s u v w (Asks step k) = record { vp = refl; served = refl }
+did_at-beside s u v w (Wants q k) = record { vp = refl; served = refl }
+
+did_at-words : {W : Type 0} (s : PartitionState) (u : Vp) (w : W) (t : Tree Outcome) → (did_at s u w t).words ≡ w
+did_at-words s u w (Ends o) = refl
+did_at-words s u w (Asks step k) = refl
+did_at-words s u w (Wants q k) = refl
+
+did-same : (limits : Limits) (p : ℕ) (s : PartitionState) (op : Option Op) (v : Vp) (steps : Stop Outcome (List ℕ)) (whole : Stop Outcome Flat) → IsPlaced limits p v → SameStop limits steps whole → SameDid limits p (did_stop s op v steps) (did_stop s op v whole)
+did-same limits p s op v steps whole is same =
+    let kept = did_stop-same s op v whole in
+    let beside = did_at-beside s (fold (saw op) v whole.events) steps.words whole.words whole.at in
     record {
-      vp = ap (λ es. stopped_at op v es steps.at) same.events ∙ ap (stopped_at op v whole.events) same.at;
-      holds = same.holds;
+      vp = ap (λ es. (did_at s (fold (saw op) v es) steps.words steps.at).vp) same.events ∙ ap (λ t. (did_at s (fold (saw op) v whole.events) steps.words t).vp) same.at ∙ beside.vp;
+      served = ap (λ es. (did_at s (fold (saw op) v es) steps.words steps.at).served) same.events ∙ ap (λ t. (did_at s (fold (saw op) v whole.events) steps.words t).served) same.at ∙ beside.served;
+      holds = rw (did_at-words s (fold (saw op) v steps.events) steps.words steps.at, did_at-words s (fold (saw op) v whole.events) whole.words whole.at) same.holds;
       placed = record { limits_same = kept.limits ∙ is.limits_same; number = kept.number ∙ is.number; low = is.low };
     }
 
-attempt-did : (limits : Limits) (program : Program) (p : ℕ) (v : Vp) (words : List ℕ) (flat : Flat) → IsPlaced limits p v → Holds limits words flat → SameDid limits p (made_steps program v words) (attempted program v flat)
+attempt-did : (limits : Limits) (program : Program) (p : ℕ) (v : Vp) (s : PartitionState) (words : List ℕ) (flat : Flat) → IsPlaced limits p v → Holds limits words flat → SameDid limits p (made_steps program v s words) (attempted program v s flat)
 unfolding made_steps attempted
-attempt-did limits program p v words flat is h =
+attempt-did limits program p v s words flat is h =
     let op = operation_at program v.state in
     let low : v.number < v.limits.vps = subst (λ (l : Limits). v.number < l.vps) (sym is.limits_same) (subst (λ n. n < limits.vps) (sym is.number) is.low) in
     let held : Holds v.limits words flat = subst (λ l. Holds l words flat) (sym is.limits_same) h in
     let same : SameStop v.limits (steps_on v.limits v.number words (tree_of (origin_of v) op)) (run_on v.limits v.number flat (tree_of (origin_of v) op)) = tree-same v.limits v.number v.state v.controllers op words flat low held in
-    did-same limits p op v _ _ is (subst (λ l. SameStop l (steps_on v.limits v.number words (tree_of (origin_of v) op)) (run_on v.limits v.number flat (tree_of (origin_of v) op))) is.limits_same same)
+    did-same limits p s op v _ _ is (subst (λ l. SameStop l (steps_on v.limits v.number words (tree_of (origin_of v) op)) (run_on v.limits v.number flat (tree_of (origin_of v) op))) is.limits_same same)
 
--- two worlds after the same attempt
-with_attempt-alike : (limits : Limits) (p : ℕ) (v : Stepped) (w : World) (u : Vp) (steps : Did (List ℕ)) (whole : Did Flat) → Alike limits v w → SameDid limits p steps whole → Alike limits (with_attempt p v u steps) (with_attempt p w u whole)
-with_attempt-alike limits p v w u steps whole r same = record {
-  vps = ap (λ us. slice_set us p steps.vp) r.vps ∙ ap (slice_set w.vps p) same.vp;
-  lines = ap (λ ls. ls ++ new_lines p u steps.vp) r.lines ∙ ap (λ x. w.lines ++ new_lines p u x) same.vp;
-  holds = same.holds;
-  placed = places-set (IsPlaced limits) w.vps p whole.vp same.placed r.placed;
+state_after-append : (s : PartitionState) (before more : List (Request × List Entry)) → state_after s (before ++ more) ≡ state_after (state_after s before) more
+state_after-append s [] more = refl
+state_after-append s (v ∷ before) more = state_after-append (after s v.0) before more
+
+joined-append : (before more : List (Request × List Entry)) → joined (before ++ more) ≡ joined before ++ joined more
+joined-append [] more = refl
+joined-append (v ∷ before) more = ap (λ es. v.1 ++ es) (joined-append before more) ∙ sym (append_assoc v.1 (joined before) (joined more))
+
+-- what is kept of the partition after more requests
+kept-more : (first : PartitionState) (k : Kept) (before more same : List (Request × List Entry)) → more ≡ same → Keeps first k before → Keeps first (after_more k more) (before ++ same)
+kept-more first k before more same e keeps = record {
+  state = ap (λ t. state_after t more) keeps.state ∙ ap (state_after (state_after first before)) e ∙ sym (state_after-append first before same);
+  journal = ap (λ es. es ++ joined more) keeps.journal ∙ ap (λ vs. joined before ++ joined vs) e ∙ sym (joined-append before same);
 }
 
-either : (limits : Limits) (b : Bool) (v v' : Stepped) (w w' : World) → Alike limits v w → Alike limits v' w' → Alike limits (cond b v v') (cond b w w')
-either limits true v v' w w' r s = r
-either limits false v v' w w' r s = s
+-- what processors do in a world by steps, and in one of whole attempts
+abbrev pub by_steps : ℕ → Program → Stepped → Option Vp → Stepped
+by_steps p program v u = acted_at made_steps (λ (k : Kept). k.state) after_more program p v u
 
--- the processor that stands at a place acts, if there is one
-acted_at-alike : (limits : Limits) (program : Program) (p : ℕ) (v : Stepped) (w : World) (u : Option Vp) → slice_get w.vps p ≡ u → Alike limits v w → Alike limits (acted_at made_steps program p v u) (acted_at attempted program p w u)
-acted_at-alike limits program p v w None e r = r
-acted_at-alike limits program p v w (Some u) e r =
-    either limits (is_running u) _ v _ w (with_attempt-alike limits p v w u _ _ r (attempt-did limits program p u v.words w.words (r.placed p u e) r.holds)) r
+abbrev pub at_once : PartitionState → ℕ → Program → World → Option Vp → World
+at_once first p program w u = acted_at attempted (state_after first) (λ before more. before ++ more) program p w u
 
-acts_alike : (limits : Limits) (programs : List Program) (p : ℕ) (v : Stepped) (w : World) → Alike limits v w → Alike limits (stepped programs p v) (acted programs p w)
-unfolding stepped acted
-acts_alike limits programs p v w r =
-    subst (λ u. Alike limits (acted_at made_steps (program_at programs p) p v u) (acted programs p w)) (sym (ap (λ us. slice_get us p) r.vps)) (acted_at-alike limits (program_at programs p) p v w (slice_get w.vps p) refl r)
+module _ (first : PartitionState) (limits : Limits) where
+  -- two worlds after the same attempt
+  with_attempt-alike : (p : ℕ) (v : Stepped) (w : World) (u : Vp) (steps : Did (List ℕ)) (whole : Did Flat) → Alike first limits v w → SameDid limits p steps whole
+      → Alike first limits (with_attempt made_steps (λ (k : Kept). k.state) after_more p v u steps) (with_attempt attempted (state_after first) (λ before more. before ++ more) p w u whole)
+  with_attempt-alike p v w u steps whole r same = record {
+    vps = ap (λ us. slice_set us p steps.vp) r.vps ∙ ap (slice_set w.vps p) same.vp;
+    lines = ap (λ ls. ls ++ attempt_lines p steps.served u steps.vp) r.lines ∙ ap (λ vs. w.lines ++ attempt_lines p vs u steps.vp) same.served ∙ ap (λ x. w.lines ++ attempt_lines p whole.served u x) same.vp;
+    kept = kept-more first v.partition w.partition steps.served whole.served same.served r.kept;
+    holds = same.holds;
+    placed = places-set (IsPlaced limits) w.vps p whole.vp same.placed r.placed;
+  }
+
+  either : (b : Bool) (v v' : Stepped) (w w' : World) → Alike first limits v w → Alike first limits v' w' → Alike first limits (cond b v v') (cond b w w')
+  either true v v' w w' r s = r
+  either false v v' w w' r s = s
+
+  attempts-alike : (program : Program) (p : ℕ) (v : Stepped) (w : World) (u : Vp) → IsPlaced limits p u → Alike first limits v w → SameDid limits p (made_steps program u v.partition.state v.words) (attempted program u (state_after first w.partition) w.words)
+  attempts-alike program p v w u is r =
+      subst (λ s. SameDid limits p (made_steps program u v.partition.state v.words) (attempted program u s w.words)) r.kept.state (attempt-did limits program p u v.partition.state v.words w.words is r.holds)
+
+  -- the processor that stands at a place acts, if there is one
+  acted_at-alike : (program : Program) (p : ℕ) (v : Stepped) (w : World) (u : Option Vp) → slice_get w.vps p ≡ u → Alike first limits v w → Alike first limits (by_steps p program v u) (at_once first p program w u)
+  acted_at-alike program p v w None e r = r
+  acted_at-alike program p v w (Some u) e r =
+      either (is_running u) _ v _ w (with_attempt-alike p v w u _ _ r (attempts-alike program p v w u (r.placed p u e) r)) r
+
+  acts_alike : (programs : List Program) (p : ℕ) (v : Stepped) (w : World) → Alike first limits v w → Alike first limits (stepped programs p v) (acted first programs p w)
+  unfolding stepped acted
+  acts_alike programs p v w r =
+      subst (λ u. Alike first limits (by_steps p (program_at programs p) v u) (acted first programs p w)) (sym (ap (λ us. slice_get us p) r.vps)) (acted_at-alike (program_at programs p) p v w (slice_get w.vps p) refl r)
 
 -- zeros behind other zeros are still zeros
 zeros-behind : (n m : ℕ) (masks memory : List ℕ) → take n (drop (length masks + m) (masks ++ (replicate (n + m) 0 ++ memory))) ≡ replicate n 0
@@ -153,21 +212,33 @@ opening-placed s all p u e =
     let is : opening_vp s p ≡ u = sym (get_or-map-range_with_len (opening_vp s) 0 n p p u low (zero-add p)) ∙ get_or_from_slice_get (map (opening_vp s) (range_with_len 0 n)) p u u e in
     subst (IsPlaced s.limits p) is (record { limits_same = refl; number = refl; low = subst (λ k. p < k) all low })
 
-opened_alike : (s : Script) → length s.programs ≡ s.limits.vps → Alike s.limits (stepped_opening s) (opened s)
+opened_alike : (s : Script) → length s.programs ≡ s.limits.vps → Alike (first_partition s) s.limits (stepped_opening s) (opened s)
 unfolding stepped_opening opened opening_shared opening_flat
 opened_alike s all = record {
   vps = refl;
   lines = refl;
+  kept = record { state = refl; journal = refl };
   holds = holds_opening s.limits (opening_masks s) (opening_words s) (length-opening_masks s);
   placed = opening-placed s all;
 }
 
-same_report : (s : Script) (v : Stepped) (w : World) → Alike s.limits v w → stepped_report s v ≡ report_of w
+same_report : (s : Script) (v : Stepped) (w : World) → Alike (first_partition s) s.limits v w → stepped_report s v ≡ report_of w
 same_report s v w r =
-    let u = r.vps in let l = r.lines in let m = r.holds.of_masks in let h = r.holds.of_memory in rw (l, u, m, h) refl
+    let u = r.vps in let l = r.lines in let j = r.kept.journal in let m = r.holds.of_masks in let h = r.holds.of_memory in rw (l, j, u, m, h) refl
+
+-- the worlds at the end of a walk of the schedule and of the flat run
+closed-alike : (s : Script) → IsWithin s → Alike (first_partition s) s.limits (after_schedule (stepped s.programs) (stepped_opening s) s.schedule) (closed s)
+unfolding closed
+closed-alike s within =
+    let first = first_partition s in
+    schedule_alike (Alike first s.limits) (stepped s.programs) (acted first s.programs) (acts_alike first s.limits s.programs) s.schedule (stepped_opening s) (opened s) (opened_alike s within.programs)
+
+-- the journal of the flat run is that of the requests that it serves
+pub flat-journal : (s : Script) → (flat s).journal ≡ joined (served s)
+unfolding flat served
+flat-journal s = refl
 
 -- the report of walking a schedule step by step is that of the flat run
 pub traced-flat : (s : Script) → IsWithin s → traced s ≡ flat s
 unfolding traced flat
-traced-flat s within =
-    same_report s _ _ (schedule_alike (Alike s.limits) (stepped s.programs) (acted s.programs) (acts_alike s.limits s.programs) s.schedule (stepped_opening s) (opened s) (opened_alike s within.programs))
+traced-flat s within = same_report s _ _ (closed-alike s within)

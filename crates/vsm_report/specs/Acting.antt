@@ -1,11 +1,16 @@
 -- A run under way, and what a processor's whole attempt does to it, whatever the attempt works on.
-use Rattle.std.specs.Prelude.{ℕ, Bool, false, not, ◌&&◌, List, [], ◌++◌, length, map, Option, Some, None, if◌then◌else◌, nat_lt, is_some, unwrap_or, slice_get, slice_set}
+use Rattle.std.specs.Prelude.{ℕ, Bool, false, not, ◌&&◌, List, ◌++◌, length, map, Option, Some, None, if◌then◌else◌, nat_lt, is_some, unwrap_or, slice_get, slice_set}
 use Rattle.std.specs.List.{range_with_len}
+use Rattle.vsm_core.specs.declared.journal.Entry.{Entry}
 use Rattle.vsm_core.specs.declared.mark.Mark.{Mark}
 use Rattle.vsm_core.specs.declared.mark.Ending.{Ending}
 use Rattle.vsm_core.specs.declared.mark.Ending.TheVariants as endings
 use Rattle.vsm_core.specs.declared.operation.Program.{Program}
+use Rattle.vsm_core.specs.declared.partition_state.PartitionState.{PartitionState}
+use Rattle.vsm_core.specs.declared.request.Request.{Request}
+use Rattle.vsm_core.specs.Partition.{opening_partition}
 use Rattle.vsm_core.specs.Processor.{Vp, Did, opening, new_marks}
+use Rattle.vsm_core.specs.Served.{joined}
 use Rattle.guest_script.specs.declared.script.Script.{Script}
 use Rattle.guest_script.specs.Programs.{program_at}
 use Rattle.vsm_report.specs.declared.report.Line.{Line}
@@ -13,11 +18,17 @@ use Rattle.vsm_report.specs.declared.report.Line.TheVariants as made
 use Rattle.vsm_report.specs.declared.report.Track.{Track}
 use Rattle.vsm_report.specs.declared.report.Report.{Report}
 
--- the words on which attempts work, the processors, each at the place of its number, and the lines so far
-pub record WorldOf (W : Type 0) : Type 0 where
+-- the words on which attempts work, what is kept of the partition, the processors, each at the place of its number, and
+-- the lines so far
+pub record WorldOf (W P : Type 0) : Type 0 where
   pub words : W
+  pub partition : P
   pub vps : List Vp
   pub lines : List Line
+
+-- the partition before the first request
+abbrev pub first_partition : Script → PartitionState
+first_partition s = opening_partition s.limits.vps s.started
 
 -- the processor of this number before its first attempt
 abbrev pub opening_vp : Script → ℕ → Vp
@@ -38,18 +49,32 @@ mark_line p mark = made.Mark (record { 0 = p }) mark
 abbrev pub new_lines : ℕ → Vp → Vp → List Line
 new_lines p old new = map (mark_line p) (new_marks old new)
 
--- the world after this attempt of the processor of this number, which was so before
-abbrev pub with_attempt : {W : Type 0} → ℕ → WorldOf W → Vp → Did W → WorldOf W
-with_attempt p w v did = record { words = did.words; vps = slice_set w.vps p did.vp; lines = w.lines ++ new_lines p v did.vp }
+abbrev pub entry_line : Entry → Line
+entry_line entry = made.Entry entry
 
-module _ {W : Type 0} (attempt : Program → Vp → W → Did W) where
-  -- a processor that runs makes its whole attempt over the words as they stand; any other does nothing
-  abbrev pub acted_at : Program → ℕ → WorldOf W → Option Vp → WorldOf W
+-- the lines of the entries that these requests added, and then those of the marks
+abbrev pub attempt_lines : ℕ → List (Request × List Entry) → Vp → Vp → List Line
+attempt_lines p served old new = map entry_line (joined served) ++ new_lines p old new
+
+-- how a processor makes its whole attempt with a partition in this state, the state that is kept of the partition, and
+-- what is kept of it once these requests were served too
+module _ {W P : Type 0} (attempt : Program → Vp → PartitionState → W → Did W) (state_in : P → PartitionState) (keeps : P → List (Request × List Entry) → P) where
+  -- the world after this attempt of the processor of this number, which was so before
+  abbrev pub with_attempt : ℕ → WorldOf W P → Vp → Did W → WorldOf W P
+  with_attempt p w v did = record {
+    words = did.words;
+    partition = keeps w.partition did.served;
+    vps = slice_set w.vps p did.vp;
+    lines = w.lines ++ attempt_lines p did.served v did.vp;
+  }
+
+  -- a processor that runs makes its whole attempt over the words and the partition as they stand; any other does nothing
+  abbrev pub acted_at : Program → ℕ → WorldOf W P → Option Vp → WorldOf W P
   acted_at program p w None = w
-  acted_at program p w (Some v) = if is_running v then with_attempt p w v (attempt program v w.words) else w
+  acted_at program p w (Some v) = if is_running v then with_attempt p w v (attempt program v (state_in w.partition) w.words) else w
 
   -- the processor of this number acts, if there is one
-  abbrev pub acted_by : List Program → ℕ → WorldOf W → WorldOf W
+  abbrev pub acted_by : List Program → ℕ → WorldOf W P → WorldOf W P
   acted_by programs p w = acted_at (program_at programs p) p w (slice_get w.vps p)
 
 -- what a processor has left
@@ -60,12 +85,12 @@ track_of v = record { marks = v.marks; seen = v.seen }
 abbrev pub ending_of : Vp → Ending
 ending_of v = if v.started then unwrap_or v.ended endings.Cut else endings.Unstarted
 
--- the report of a run by one thread, without a partition, that leaves these masks and memory words
-abbrev pub report_with : {W : Type 0} → WorldOf W → List ℕ → List ℕ → Report
-report_with w masks words = record {
+-- the report of a run by one thread that leaves this journal, these masks and these memory words
+abbrev pub report_with : {W P : Type 0} → WorldOf W P → List Entry → List ℕ → List ℕ → Report
+report_with w journal masks words = record {
   threads = false;
   lines = w.lines;
-  journal = [];
+  journal = journal;
   tracks = map track_of w.vps;
   ends = map ending_of w.vps;
   masks = masks;

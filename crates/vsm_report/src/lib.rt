@@ -11,7 +11,7 @@ mod text_buffer;
 mod words;
 mod writer;
 
-pub use report::{Line, Report, StepWord, Track, add_mark};
+pub use report::{Line, Report, StepWord, Track, add_entry, add_mark};
 pub use writer::write;
 
 #[cfg(test)]

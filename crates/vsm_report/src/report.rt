@@ -91,3 +91,12 @@ pub fn add_mark(
 {
     add(lines, Line::Mark(vp, *mark));
 }
+
+/// Adds the line of an entry of the partition's journal, in room that was taken before. The last two arguments are there
+/// for their types, as those of `add_mark`.
+pub fn add_entry(lines: &mut Reserved<Line>, entry: &Entry, _step: &[StepWord], _mark: &[Mark])
+    requires { length lines.old.0 < lines.old.1 }
+    ensures { lines.new ≡ (lines.old.0 ++ Line.Entry entry.now ∷ [], lines.old.1) }
+{
+    add(lines, Line::Entry(*entry));
+}

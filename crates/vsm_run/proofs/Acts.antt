@@ -1,17 +1,20 @@
 -- A processor acts in a world of steps.
-use Rattle.std.proofs.Common.{◌≡◌, ◌<◌, ℕ, Bool, true, false, cond, is_some, Some, None, List, [], ◌++◌, length, get_or, slice_get, slice_set, refl, sym, ap, ◌∙◌, subst, arith}
+use Rattle.std.proofs.Common.{◌≡◌, ◌<◌, ℕ, Bool, true, false, cond, is_some, Option, Some, None, List, [], ◌++◌, length, get_or, slice_get, slice_set, refl, sym, ap, ◌∙◌, subst, arith}
 use Rattle.std.proofs.lemmas.List.{length-set, set-get_or, get_or_default}
 use Rattle.std.proofs.lemmas.Option.{slice_get_read}
 use Rattle.vsm_base.specs.declared.places.Limits.{Limits}
+use Rattle.vsm_core.specs.declared.mark.Ending.{Ending}
 use Rattle.vsm_core.specs.declared.operation.Program.{Program}
 use Rattle.vsm_core.specs.Processor.{Vp}
 use Rattle.guest_script.specs.Programs.{program_at}
 use Rattle.vsm_report.specs.declared.report.Line.{Line}
-use Rattle.vsm_report.specs.Acting.{is_running, new_lines, with_attempt}
-use Rattle.vsm_report.specs.Trace.{Stepped, made_steps, stepped}
+use Rattle.partition.specs.PartView.{PartView}
+use Rattle.vsm_report.specs.Acting.{is_running, attempt_lines, with_attempt}
+use Rattle.vsm_report.specs.Trace.{Kept, Stepped, after_more, made_steps, stepped}
 use Rattle.vsm_report.proofs.Processors.{places-set}
 use Rattle.vsm_run.specs.Fits.{Fits, FitsOne}
 use Rattle.vsm_run.specs.Rests.{IsInPlace}
+use Rattle.vsm_run.specs.Serving.{IsDone, kept_of}
 
 picks : {A : Type 0} (b : Bool) (x y : A) → b ≡ true → x ≡ cond b x y
 picks true x y e = refl
@@ -27,9 +30,16 @@ runs v started going = rw (started, going) refl
 has_ended : (v : Vp) → v.started ≡ true → is_some v.ended ≡ true → is_running v ≡ false
 has_ended v started ended = rw (started, ended) refl
 
+-- a processor that has no ending
+pub runs_on : (v : Vp) → is_some v.ended ≡ false → v.ended ≡ None
+runs_on v e = none v.ended e where
+  none : (ended : Option Ending) → is_some ended ≡ false → ended ≡ None
+  none None e = refl
+  none (Some ending) e = cc
+
 -- the world of these parts
-abbrev pub world_of : List ℕ → List Vp → List Line → Stepped
-world_of words vps lines = record { words = words; vps = vps; lines = lines }
+abbrev pub world_of : List ℕ → Kept → List Vp → List Line → Stepped
+world_of words partition vps lines = record { words = words; partition = partition; vps = vps; lines = lines }
 
 -- there is no processor of this number
 stepped-none : (programs : List Program) (p : ℕ) (w : Stepped) → slice_get w.vps p ≡ None → stepped programs p w ≡ w
@@ -42,13 +52,17 @@ unfolding stepped
 stepped-ended programs p w v found started ended = rw found (skips (is_running v) _ w (has_ended v started ended))
 
 -- the processor of this number makes its attempt
-pub stepped-running : (programs : List Program) (p : ℕ) (program : Program) (w : Stepped) (v n : Vp) (words : List ℕ) (lines : List Line) → program_at programs p ≡ program → slice_get w.vps p ≡ Some v → v.started ≡ true → v.number ≡ p → is_some v.ended ≡ false
-    → n ≡ (made_steps program v w.words).vp → words ≡ (made_steps program v w.words).words → lines ≡ w.lines ++ new_lines v.number v n
-    → world_of words (slice_set w.vps p n) lines ≡ stepped programs p w
+pub stepped-running : (programs : List Program) (p : ℕ) (program : Program) (w : Stepped) (v n : Vp) (before now : PartView) (after : List ℕ) (lines : List Line) → program_at programs p ≡ program → slice_get w.vps p ≡ Some v → v.started ≡ true → v.number ≡ p → is_some v.ended ≡ false
+    → w.partition ≡ kept_of before → IsDone (made_steps program v before.state w.words) n after before now
+    → lines ≡ w.lines ++ attempt_lines v.number (made_steps program v before.state w.words).served v n
+    → world_of after (kept_of now) (slice_set w.vps p n) lines ≡ stepped programs p w
 unfolding stepped
-stepped-running programs p program w v n words lines own found started number going vp word line =
-    let said : lines ≡ w.lines ++ new_lines p v n = line ∙ ap (λ q. w.lines ++ new_lines q v n) number in
-    rw (found, own, said, vp, word) (picks (is_running v) (with_attempt p w v (made_steps program v w.words)) w (runs v started going))
+stepped-running programs p program w v n before now after lines own found started number going kept done line =
+    let did = made_steps program v before.state w.words in
+    let said : lines ≡ w.lines ++ attempt_lines p did.served v n = line ∙ ap (λ q. w.lines ++ attempt_lines q did.served v n) number in
+    let vp = done.vp in let words = done.words in let partition = done.partition in
+    rw (found, own, kept, said, vp, words, partition)
+    (picks (is_running v) (with_attempt made_steps (λ (k : Kept). k.state) after_more p (record w { partition = kept_of before }) v did) (record w { partition = kept_of before }) (runs v started going))
 
 -- the processor at a place, as it is read
 pub found_at : (vps : List Vp) (p : ℕ) (v : Vp) → p < length vps → v ≡ get_or vps p v → slice_get vps p ≡ Some v

@@ -1,5 +1,5 @@
 -- Processors before their first attempts.
-use Rattle.std.proofs.Common.{◌≡◌, ◌<◌, ◌+◌, ℕ, zero, suc, nat_lt, Some, List, [], ◌∷◌, ◌++◌, length, map, replicate, get_or, slice_get, refl, sym, ap, subst, ◌∙◌, zero-add, arith}
+use Rattle.std.proofs.Common.{◌≡◌, ◌<◌, ◌≤◌, ◌+◌, ℕ, Bool, zero, suc, nat_lt, Some, List, [], ◌∷◌, ◌++◌, length, map, replicate, get_or, slice_get, refl, sym, ap, subst, ◌∙◌, zero-add, arith}
 use Rattle.std.specs.List.{range_with_len}
 use Rattle.std.proofs.lemmas.Bool.Decides.{nat_tests}
 use Rattle.std.proofs.lemmas.List.FromFn.{length-map-range_with_len, get_or-map-range_with_len, map-range_with_len_more}
@@ -11,7 +11,8 @@ use Rattle.guest_script.specs.declared.script.Script.{Script}
 use Rattle.guest_script.specs.Programs.{program_at}
 use Rattle.vsm_report.specs.Acting.{opening_vp, opening_vps}
 use Rattle.vsm_run.specs.Fits.{Fits, FitsOne}
-use Rattle.vsm_run.specs.Rests.{AllIdle, IsInPlace}
+use Rattle.vsm_base.specs.declared.places.Limits.{Limits}
+use Rattle.vsm_run.specs.Rests.{AllIdle, HasMarkLeft, IsInPlace}
 use Rattle.vsm_run.proofs.Acts.{AllInPlace, program_here}
 
 pub all_idle : (n : ℕ) → AllIdle (replicate n Idle)
@@ -42,13 +43,20 @@ pub length-opening_vps : (s : Script) → length (opening_vps s) ≡ length s.pr
 unfolding opening_vps
 length-opening_vps s = length-map-range_with_len (opening_vp s) 0 (length s.programs)
 
-module _ (s : Script) (programs : length s.programs ≡ s.limits.vps) (started : s.started ≡ s.limits.vps) where
+-- a first operation needs a budget
+opening-left : (started : Bool) (number : ℕ) (limits : Limits) (zeros ones : ℕ) → 1 ≤ limits.budget → HasMarkLeft (opening number limits started zeros ones)
+opening-left started number limits zeros ones some = λ e. omega arith
+
+module _ (s : Script) (programs : length s.programs ≡ s.limits.vps) (started : s.started ≡ s.limits.vps) (some : 1 ≤ s.limits.budget) where
   first-in-place : (p : ℕ) → p < length s.programs → IsInPlace s.limits p (opening_vp s p)
   first-in-place p low = record {
     number = refl;
+    low = subst (λ n. p < n) programs low;
     limits_same = refl;
     started = grind (arith, nat_tests, programs, started);
     rests = refl;
+    answered = refl;
+    left = let program = program_at s.programs p in opening-left (nat_lt p s.started) p s.limits (length program.zero) (length program.one) some;
   }
 
   pub opening-in-place : AllInPlace s.limits (opening_vps s)

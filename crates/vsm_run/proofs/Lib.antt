@@ -1,7 +1,12 @@
 pub mod Acts
+pub mod Asking
+pub mod AtOnce
 pub mod Attempts
+pub mod Blocks
+pub mod Budgets
 pub mod Finishes
 pub mod First
 pub mod Reports
+pub mod Serves
 pub mod Turning
 pub mod Wholes

@@ -11,6 +11,6 @@ use Rattle.vsm_report.specs.Trace.{Stepped, stepped, stepped_opening, traced}
 
 -- the report of what the walk of the schedule has led to
 pub report-traced : (s : Script) (start w : Stepped) (limits : Limits) (programs : List Program) (lines : List (List Turns)) → limits ≡ s.limits → start ≡ stepped_opening s → programs ≡ s.programs → lines ≡ s.schedule
-    → w ≡ after_schedule (stepped programs) start lines → report_with w (take limits.pages w.words) (drop (memory_at limits) w.words) ≡ traced s
+    → w ≡ after_schedule (stepped programs) start lines → report_with w w.partition.journal (take limits.pages w.words) (drop (memory_at limits) w.words) ≡ traced s
 unfolding traced
 report-traced s start w limits programs lines same first own all last = rw (same, last, first, own, all) refl

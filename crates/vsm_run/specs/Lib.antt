@@ -3,4 +3,5 @@ pub mod Held
 pub mod Rests
 pub mod Rooms
 pub mod Running
+pub mod Serving
 pub mod Wholes

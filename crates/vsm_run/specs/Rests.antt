@@ -1,9 +1,9 @@
 -- Between two attempts.
-use Rattle.std.specs.Prelude.{◌≡◌, ℕ, true, Some, List, length, get_or, slice_get}
+use Rattle.std.specs.Prelude.{◌≡◌, ℕ, ◌<◌, true, false, None, Some, List, length, get_or, slice_get}
 use Rattle.vsm_base.specs.declared.places.Limits.{Limits}
 use Rattle.vsm_core.specs.declared.event.Phase.{Phase}
 use Rattle.vsm_core.specs.declared.event.Phase.TheVariants.{Idle}
-use Rattle.vsm_core.specs.Processor.{Vp}
+use Rattle.vsm_core.specs.Processor.{Vp, standing}
 
 -- no processor is in an access
 abbrev pub AllIdle : List Phase → Type 0
@@ -13,12 +13,19 @@ AllIdle phases = (p : ℕ) → get_or phases p Idle ≡ Idle
 abbrev pub IsAtRest : Vp → Type 0
 IsAtRest v = v.first ≡ length v.seen
 
--- the processor at this place: it has started, and no attempt of it is under way
+-- a processor that runs has a mark of its budget left
+abbrev pub HasMarkLeft : Vp → Type 0
+HasMarkLeft v = v.ended ≡ None → length (standing v) < v.limits.budget
+
+-- the processor at this place: it has started, no attempt of it is under way, and it waits for no reply
 pub record IsInPlace (limits : Limits) (p : ℕ) (v : Vp) : Type 0 where
   pub number : v.number ≡ p
+  pub low : p < limits.vps
   pub limits_same : v.limits ≡ limits
   pub started : v.started ≡ true
   pub rests : IsAtRest v
+  pub answered : v.owes ≡ false
+  pub left : HasMarkLeft v
 
 -- each processor has started
 abbrev pub AllStarted : List Vp → Type 0

@@ -1,31 +1,36 @@
 // One processor acts.
-ghost use Rattle.std.specs.Prelude.{◌≡◌, ◌≢◌, ℕ, ◌+◌, ◌<◌, ◌≤◌, ◌++◌, length, map, get_or, true, None};
-ghost use Rattle.vsm_core.specs.Processor.{operation_at};
-ghost use Rattle.cpu.specs.Turns.{phase_at};
-ghost use Rattle.vsm_report.specs.Acting.{mark_line, new_lines};
+ghost use Rattle.std.specs.Prelude.{◌≡◌, ◌≢◌, ℕ, ◌+◌, ◌<◌, ◌≤◌, [], ◌∷◌, ◌++◌, length, map, get_or, true, false, None};
+ghost use Rattle.vsm_core.specs.Processor.{operation_at, standing};
+ghost use Rattle.vsm_core.specs.Served.{answer, block};
+ghost use Rattle.cpu.specs.Turns.{OwesBy, phase_at};
+ghost use Rattle.vsm_report.specs.Acting.{attempt_lines, entry_line, mark_line};
 ghost use Rattle.vsm_report.specs.Trace.{made_steps};
 ghost use Rattle.vsm_run.specs.Fits.{FitsOne};
 ghost use Rattle.vsm_run.specs.Rests.{AllIdle, IsAtRest, IsInPlace};
-ghost use Rattle.vsm_run.specs.Wholes.{Leads};
+ghost use Rattle.vsm_run.specs.Serving.{IsDone, IsFree, with_served};
+ghost use Rattle.vsm_run.specs.Wholes.{Comes, Leads};
 
 use cpu::{Cpu, CpuTurn};
 use fabric::PlainFabric;
+use partition::{PartTurn, Partition};
 use vsm_base::{Reserved, VpIndex};
-use vsm_core::{Mark, Phase, Program};
-use vsm_report::{Line, add_mark};
+use vsm_core::{Entry, Mark, Phase, Program, Reply, Request};
+use vsm_report::{Line, add_entry, add_mark};
 
 // Lets a processor make one turn.
 fn turn_at(fabric: &mut PlainFabric, cpu: &mut Cpu, program: &Program) -> CpuTurn
     requires going { cpu.old.ended ≡ None }
     requires started { cpu.old.started ≡ true }
+    requires answered { cpu.old.owes ≡ false }
     requires fits { FitsOne program.now cpu.old }
     requires limits { cpu.old.limits ≡ fabric.old.limits }
     requires phase { get_or fabric.old.fabric.phases cpu.old.number Phase.Idle ≡ phase_at cpu.old.seen cpu.old.first }
     ensures leads { Leads result fabric.old.limits cpu.old.number (operation_at program.now cpu.old.state) cpu.old cpu.new fabric.old.fabric.words fabric.new.fabric.words }
+    ensures owes { OwesBy result cpu.new.owes }
     ensures limits { fabric.new.limits ≡ fabric.old.limits }
     ensures phase { get_or fabric.new.fabric.phases cpu.old.number Phase.Idle ≡ phase_at cpu.new.seen cpu.new.first }
     ensures others { (q : ℕ) → q ≢ cpu.old.number → get_or fabric.new.fabric.phases q Phase.Idle ≡ get_or fabric.old.fabric.phases q Phase.Idle }
-    ensures few { length cpu.new.seen ≤ cpu.new.first + 27 }
+    ensures few { length cpu.new.seen ≤ cpu.new.first + 34 }
 {
     let vp = cpu.vp();
     let mut port = fabric.port(vp);
@@ -34,19 +39,69 @@ fn turn_at(fabric: &mut PlainFabric, cpu: &mut Cpu, program: &Program) -> CpuTur
     turn
 }
 
-// Lets a processor make its attempt to the end. No other processor acts meanwhile.
-fn attempt_at(fabric: &mut PlainFabric, cpu: &mut Cpu, program: &Program)
+// Lets a processor make the steps of its attempt, up to its end or to its request. No other processor acts meanwhile.
+fn steps_at(fabric: &mut PlainFabric, cpu: &mut Cpu, program: &Program) -> CpuTurn
     requires going { cpu.old.ended ≡ None }
     requires place { IsInPlace fabric.old.limits cpu.old.number cpu.old }
     requires fits { FitsOne program.now cpu.old }
     requires idle { AllIdle fabric.old.fabric.phases }
-    ensures vp { cpu.new ≡ (made_steps program.now cpu.old fabric.old.fabric.words).vp }
-    ensures words { fabric.new.fabric.words ≡ (made_steps program.now cpu.old fabric.old.fabric.words).words }
+    ensures comes { Comes result fabric.old.limits cpu.old.number (operation_at program.now cpu.old.state) cpu.old cpu.new fabric.old.fabric.words fabric.new.fabric.words }
+    ensures owes { OwesBy result cpu.new.owes }
+    ensures limits { fabric.new.limits ≡ fabric.old.limits }
+    ensures idle { AllIdle fabric.new.fabric.phases }
+{
+    'turns: loop {
+        match turn_at(fabric, cpu, program) {
+            CpuTurn::Moved => {}
+            turn => return turn,
+        }
+    }
+}
+
+// Lets the partition serve a request at once: it adds one entry, with no step on the words.
+fn serve(partition: &mut Partition, fabric: &mut PlainFabric, request: Request) -> Reply
+    requires free { partition.old.under ≡ None }
+    requires by { request.by.0 < length partition.old.state.vps }
+    requires room { length partition.old.journal.entries < partition.old.journal.room }
+    ensures reply { result ≡ answer partition.old.state request }
+    ensures done { result.done < 4096 }
+    ensures served { partition.new ≡ with_served partition.old ((request, block partition.old.state request) ∷ []) }
+    ensures fabric { fabric.new ≡ fabric.old }
+{
+    partition.begin(request);
+    let PartTurn::Done(reply) = partition.turn(&mut fabric.steward()) else {
+        unreachable!()
+    };
+    reply
+}
+
+// Lets a processor make its attempt to the end.
+fn attempt_at(fabric: &mut PlainFabric, partition: &mut Partition, cpu: &mut Cpu, program: &Program)
+    requires going { cpu.old.ended ≡ None }
+    requires place { IsInPlace fabric.old.limits cpu.old.number cpu.old }
+    requires fits { FitsOne program.now cpu.old }
+    requires idle { AllIdle fabric.old.fabric.phases }
+    requires free { IsFree fabric.old.limits.vps partition.old }
+    requires room { length partition.old.journal.entries < partition.old.journal.room }
+    ensures done { IsDone (made_steps program.now cpu.old partition.old.state fabric.old.fabric.words) cpu.new fabric.new.fabric.words partition.old partition.new }
     ensures limits { fabric.new.limits ≡ fabric.old.limits }
     ensures rests { IsAtRest cpu.new }
     ensures idle { AllIdle fabric.new.fabric.phases }
 {
-    'turns: while let CpuTurn::Moved = turn_at(fabric, cpu, program) {}
+    if let CpuTurn::Wants(request) = steps_at(fabric, cpu, program) {
+        let reply = serve(partition, fabric, request);
+        cpu.accept(reply);
+    }
+}
+
+// Adds the lines of entries, in room that was taken before.
+fn add_entries(lines: &mut Reserved<Line>, entries: &[Entry])
+    requires { length lines.old.0 + length entries.now ≤ lines.old.1 }
+    ensures { lines.new ≡ (lines.old.0 ++ map entry_line entries.now, lines.old.1) }
+{
+    for entry in entries {
+        add_entry(lines, entry, &[], &[]);
+    }
 }
 
 // Adds the lines of marks, in room that was taken before.
@@ -59,9 +114,11 @@ fn add_marks(lines: &mut Reserved<Line>, vp: VpIndex, marks: &[Mark])
     }
 }
 
-/// Lets a processor that runs act: it makes a whole attempt, and the line of the mark that this leaves is added.
+/// Lets a processor that runs act: it makes a whole attempt, and the lines of the entry and of the mark that this leaves
+/// are added.
 pub fn act_at(
     fabric: &mut PlainFabric,
+    partition: &mut Partition,
     cpu: &mut Cpu,
     program: &Program,
     lines: &mut Reserved<Line>,
@@ -70,18 +127,24 @@ pub fn act_at(
     requires place { IsInPlace fabric.old.limits cpu.old.number cpu.old }
     requires fits { FitsOne program.now cpu.old }
     requires idle { AllIdle fabric.old.fabric.phases }
-    requires room { length lines.old.0 < lines.old.1 }
-    ensures vp { cpu.new ≡ (made_steps program.now cpu.old fabric.old.fabric.words).vp }
-    ensures words { fabric.new.fabric.words ≡ (made_steps program.now cpu.old fabric.old.fabric.words).words }
-    ensures lines { lines.new ≡ (lines.old.0 ++ new_lines cpu.old.number cpu.old cpu.new, lines.old.1) }
-    ensures grows { length lines.new.0 ≤ length lines.old.0 + 1 }
+    requires free { IsFree fabric.old.limits.vps partition.old }
+    requires entries { length partition.old.journal.entries < partition.old.journal.room }
+    requires room { length lines.old.0 + 2 ≤ lines.old.1 }
+    ensures done { IsDone (made_steps program.now cpu.old partition.old.state fabric.old.fabric.words) cpu.new fabric.new.fabric.words partition.old partition.new }
+    ensures lines { lines.new ≡ (lines.old.0 ++ attempt_lines cpu.old.number (made_steps program.now cpu.old partition.old.state fabric.old.fabric.words).served cpu.old cpu.new, lines.old.1) }
+    ensures grows { length lines.new.0 ≤ length lines.old.0 + 2 }
+    ensures spends { length partition.new.journal.entries + length (standing cpu.old) ≤ length partition.old.journal.entries + length (standing cpu.new) }
+    ensures marks { length (standing cpu.new) ≤ length (standing cpu.old) + 1 }
     ensures limits { fabric.new.limits ≡ fabric.old.limits }
     ensures place { IsInPlace fabric.old.limits cpu.old.number cpu.new }
     ensures fits { FitsOne program.now cpu.new }
     ensures idle { AllIdle fabric.new.fabric.phases }
+    ensures free { IsFree fabric.old.limits.vps partition.new }
 {
     let vp = cpu.vp();
     let stood = cpu.standing();
-    attempt_at(fabric, cpu, program);
+    let before = partition.journal().entries().len();
+    attempt_at(fabric, partition, cpu, program);
+    add_entries(lines, &partition.journal().entries()[before..]);
     add_marks(lines, vp, &cpu.marks()[stood..]);
 }

@@ -11,7 +11,7 @@ use cpu::Cpu;
 use fabric::{Layout, PlainFabric};
 use std::alloc::Global;
 use vsm_base::{Items, Limits, Mask, Memory, Reserved};
-use vsm_core::{Ending, GuestFault};
+use vsm_core::{Ending, Entry, GuestFault};
 use vsm_report::{Line, Report, Track};
 
 /// Room for what a run leaves.
@@ -95,19 +95,19 @@ fn add_tracks(cpus: Vec<Cpu>, tracks: &mut Reserved<Track>)
     }
 }
 
-/// The report of what these words, processors and lines are at the end.
+/// The report of what these words, processors, lines and journal are at the end.
 pub fn left(
-    alloc: Global,
     limits: &Limits,
     fabric: &PlainFabric,
     cpus: Vec<Cpu>,
     lines: Reserved<Line>,
+    journal: Items<Entry>,
     mut rooms: Rooms,
 ) -> Report
     requires limits { limits.now ≡ fabric.now.limits }
     requires started { AllStarted cpus.items }
     requires rooms { HasRooms rooms (length cpus.items) limits.now }
-    ensures { result ≡ report_with (record { words = fabric.now.fabric.words; vps = cpus.items; lines = lines.0 }) (take limits.now.pages fabric.now.fabric.words) (drop (memory_at limits.now) fabric.now.fabric.words) }
+    ensures { result ≡ report_with (record { words = fabric.now.fabric.words; partition = journal; vps = cpus.items; lines = lines.0 }) journal (take limits.now.pages fabric.now.fabric.words) (drop (memory_at limits.now) fabric.now.fabric.words) }
 {
     let words = fabric.words();
     add_masks(&words[..limits.pages as usize], &mut rooms.masks);
@@ -120,7 +120,7 @@ pub fn left(
     Report {
         threads: false,
         lines: lines.into_items(),
-        journal: Items::new(alloc),
+        journal,
         tracks: rooms.tracks.into_items(),
         ends: rooms.ends.into_items(),
         masks: rooms.masks.into_items(),

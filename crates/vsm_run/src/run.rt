@@ -1,10 +1,13 @@
 // The run of a script.
-ghost use Rattle.std.specs.Prelude.{◌≡◌, ◌+◌, ◌≤◌, ◌<◌, IfOk, length, take, drop};
+ghost use Rattle.std.specs.Prelude.{◌≡◌, ◌+◌, ◌*◌, ◌≤◌, IfOk, length, take, drop};
 ghost use Rattle.guest_script.specs.Schedules.{all_turns, turns_of};
 ghost use Rattle.guest_script.specs.Within.{IsWithin};
+ghost use Rattle.vsm_core.specs.Blocks.{IsWhole};
+ghost use Rattle.vsm_core.specs.Partition.{opening_partition};
+ghost use Rattle.vsm_core.specs.Served.{AreServed, joined};
 ghost use Rattle.vsm_core.specs.Words.{memory_at};
 ghost use Rattle.vsm_report.specs.Acting.{report_with};
-ghost use Rattle.vsm_report.specs.FlatRun.{flat};
+ghost use Rattle.vsm_report.specs.FlatRun.{flat, served};
 ghost use Rattle.vsm_report.specs.Schedule.{after_line, after_schedule, after_turns};
 ghost use Rattle.vsm_report.specs.Trace.{stepped, stepped_opening, stepped_report, traced};
 ghost use Rattle.vsm_run.specs.Fits.{Fits};
@@ -16,6 +19,7 @@ use crate::opening::{all_turns, opening_cpus, opening_masks, opening_words};
 use cpu::Cpu;
 use fabric::PlainFabric;
 use guest_script::{Script, Turns};
+use partition::Partition;
 use std::alloc::Global;
 use std::marker::Model;
 use vsm_base::{Items, Limits, Memory, Reserved, VpIndex};
@@ -26,6 +30,7 @@ use vsm_report::{Line, Report};
 #[derive(Drop)]
 struct Run {
     fabric: PlainFabric,
+    partition: Partition,
     cpus: Vec<Cpu>,
     lines: Reserved<Line>,
 }
@@ -46,9 +51,9 @@ impl Run {
     #[tactic(auto, unfolding(vsm_report::specs::Trace::stepped))]
     fn act(&mut self, programs: &[Program], vp: VpIndex)
         requires fits { Fits programs.now self.old.world.vps }
-        requires room { length self.old.world.lines < self.old.room }
+        requires room { length self.old.world.lines + 2 ≤ self.old.room }
         ensures acts { self.new.world ≡ stepped programs.now vp.0 self.old.world }
-        ensures grows { length self.new.world.lines ≤ length self.old.world.lines + 1 }
+        ensures grows { length self.new.world.lines ≤ length self.old.world.lines + 2 }
         ensures fits { Fits programs.now self.new.world.vps }
         ensures room { self.new.room ≡ self.old.room }
         ensures limits { self.new.limits ≡ self.old.limits }
@@ -60,15 +65,21 @@ impl Run {
         if cpu.ended().is_some() {
             return;
         }
-        act_at(&mut self.fabric, cpu, &programs[p], &mut self.lines);
+        act_at(
+            &mut self.fabric,
+            &mut self.partition,
+            cpu,
+            &programs[p],
+            &mut self.lines,
+        );
     }
 
     /// The processor of this number acts so many times.
     fn turns(&mut self, programs: &[Program], vp: VpIndex, count: u32)
         requires fits { Fits programs.now self.old.world.vps }
-        requires room { length self.old.world.lines + count ≤ self.old.room }
+        requires room { length self.old.world.lines + 2 * count ≤ self.old.room }
         ensures acts { self.new.world ≡ after_turns (stepped programs.now vp.0) count self.old.world }
-        ensures grows { length self.new.world.lines ≤ length self.old.world.lines + count }
+        ensures grows { length self.new.world.lines ≤ length self.old.world.lines + 2 * count }
         ensures fits { Fits programs.now self.new.world.vps }
         ensures room { self.new.room ≡ self.old.room }
         ensures limits { self.new.limits ≡ self.old.limits }
@@ -82,9 +93,9 @@ impl Run {
     #[tactic(auto, unfolding(vsm_report::specs::Schedule::after_line))]
     fn line(&mut self, programs: &[Program], entries: &[Turns])
         requires fits { Fits programs.now self.old.world.vps }
-        requires room { length self.old.world.lines + turns_of entries.now ≤ self.old.room }
+        requires room { length self.old.world.lines + 2 * turns_of entries.now ≤ self.old.room }
         ensures acts { self.new.world ≡ after_line (stepped programs.now) self.old.world entries.now }
-        ensures grows { length self.new.world.lines ≤ length self.old.world.lines + turns_of entries.now }
+        ensures grows { length self.new.world.lines ≤ length self.old.world.lines + 2 * turns_of entries.now }
         ensures fits { Fits programs.now self.new.world.vps }
         ensures room { self.new.room ≡ self.old.room }
         ensures limits { self.new.limits ≡ self.old.limits }
@@ -98,7 +109,7 @@ impl Run {
     #[tactic(auto, unfolding(vsm_report::specs::Schedule::after_schedule))]
     fn schedule(&mut self, programs: &[Program], lines: &[Items<Turns>])
         requires fits { Fits programs.now self.old.world.vps }
-        requires room { length self.old.world.lines + all_turns lines.now ≤ self.old.room }
+        requires room { length self.old.world.lines + 2 * all_turns lines.now ≤ self.old.room }
         ensures acts { self.new.world ≡ after_schedule (stepped programs.now) self.old.world lines.now }
         ensures fits { Fits programs.now self.new.world.vps }
         ensures limits { self.new.limits ≡ self.old.limits }
@@ -109,50 +120,59 @@ impl Run {
     }
 
     /// What the run has left.
-    fn into_report(self, alloc: Global, limits: &Limits, rooms: Rooms) -> Report
+    fn into_report(self, limits: &Limits, rooms: Rooms) -> Report
         requires limits { limits.now ≡ self.limits }
         requires empty { HasRooms rooms (length self.world.vps) self.limits }
-        ensures { result ≡ report_with self.world (take self.limits.pages self.world.words) (drop (memory_at self.limits) self.world.words) }
+        ensures { result ≡ report_with self.world self.world.partition.journal (take self.limits.pages self.world.words) (drop (memory_at self.limits) self.world.words) }
     {
         let Run {
             fabric,
+            partition,
             cpus,
             lines,
         } = self;
-        left(alloc, limits, &fabric, cpus, lines, rooms)
+        let journal = partition.into_journal().into_entries();
+        left(limits, &fabric, cpus, lines, journal, rooms)
     }
 }
 
-// A run before its first turn, with room for the line of each turn.
+// A run before its first turn, with room for the lines of each turn, which are two where a request is served.
 #[tactic(auto, unfolding(vsm_report::specs::Trace::stepped_opening, vsm_report::specs::Trace::opening_shared))]
 fn opened(alloc: Global, script: &Script) -> Result<Run, Memory>
     requires { IsWithin script.now }
     ensures world { IfOk result (λ run. run.world ≡ stepped_opening script.now) }
-    ensures room { IfOk result (λ run. length run.world.lines + all_turns script.now.schedule ≤ run.room) }
+    ensures room { IfOk result (λ run. length run.world.lines + 2 * all_turns script.now.schedule ≤ run.room) }
     ensures limits { IfOk result (λ run. run.limits ≡ script.now.limits) }
     ensures fits { IfOk result (λ run. Fits script.now.programs run.world.vps) }
 {
     let masks = opening_masks(alloc, script)?;
     let words = opening_words(alloc, script)?;
     let fabric = PlainFabric::new(alloc, &script.limits, &masks, &words)?;
+    let partition = Partition::new(alloc, &script.limits, &masks, script.started)?;
     let cpus = opening_cpus(alloc, script)?;
-    let lines = Reserved::new(alloc, all_turns(script.schedule.as_slice()))?;
+    let lines = Reserved::new(alloc, 2 * all_turns(script.schedule.as_slice()))?;
     Ok(Run {
         fabric,
+        partition,
         cpus,
         lines,
     })
 }
 
 /// The report of a script's run, which is the same whether each attempt is made at once or step by step on the
-/// shared words. All memory is taken before the first turn; the only error is want of it.
+/// shared words. What an attempt asks of the partition is served at once, in the state that the requests before it leave.
+/// The journal has the entries that these requests add, and is whole. All memory is taken before the first turn; the
+/// only error is want of it.
 pub fn trace(alloc: Global, script: &Script) -> Result<Report, Memory>
     requires { IsWithin script.now }
     ensures at_once { IfOk result (λ report. report ≡ flat script.now) }
     ensures by_steps { IfOk result (λ report. report ≡ traced script.now) }
+    ensures served { IfOk result (λ report. AreServed (opening_partition script.now.limits.vps script.now.started) (served script.now)) }
+    ensures journal { IfOk result (λ report. report.journal ≡ joined (served script.now)) }
+    ensures whole { IfOk result (λ report. IsWhole script.now.limits.vps report.journal) }
 {
     let mut run = opened(alloc, script)?;
     let rooms = Rooms::new(alloc, &script.limits)?;
     run.schedule(script.programs.as_slice(), script.schedule.as_slice());
-    Ok(run.into_report(alloc, &script.limits, rooms))
+    Ok(run.into_report(&script.limits, rooms))
 }

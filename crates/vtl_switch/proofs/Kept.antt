@@ -10,36 +10,7 @@ use Rattle.vsm_core.specs.Registers.{Registers, is_legal, get, put, private_plac
 use Rattle.vsm_core.specs.State.{State, put as put_active, put_legal, gone_on, rip_of, privilege_of, word_of}
 use Rattle.vsm_core.specs.Switch.{is_zero, may_call, may_return, called, returned, with_active, with_pair}
 use Rattle.vtl_switch.specs.Stays.{IsNotGiven}
-use Rattle.vtl_switch.proofs.Places.{rip-alone, rax-alone, rcx-alone}
-
--- either value of a test
-under : (b : Bool) (x y z w : ℕ) → x ≡ z → y ≡ w → cond b x y ≡ cond b z w
-under true x y z w e f = e
-under false x y z w e f = f
-
--- a write of Rip, Rax or Rcx changes no other register
-put-rip : (registers : Registers) (at level : Vtl) (name : Name) (value : ℕ) → ¬ ((level ≡ at) × (name ≡ names.Rip)) → get (put registers at names.Rip value) level name ≡ get registers level name
-put-rip registers Zero Zero name value other = under (is_shared name) _ _ _ _ refl (get_or-set_other registers.zero (private_place names.Rip) (private_place name) value 0 (rip-alone name (λ e. other (refl, e))))
-put-rip registers One One name value other = under (is_shared name) _ _ _ _ refl (get_or-set_other registers.one (private_place names.Rip) (private_place name) value 0 (rip-alone name (λ e. other (refl, e))))
-put-rip registers Zero One name value other = refl
-put-rip registers One Zero name value other = refl
-
-put-rax : (registers : Registers) (at level : Vtl) (name : Name) (value : ℕ) → name ≢ names.Rax → get (put registers at names.Rax value) level name ≡ get registers level name
-put-rax registers at Zero name value other = under (is_shared name) _ _ _ _ (get_or-set_other registers.shared (shared_place names.Rax) (shared_place name) value 0 (rax-alone name other)) refl
-put-rax registers at One name value other = under (is_shared name) _ _ _ _ (get_or-set_other registers.shared (shared_place names.Rax) (shared_place name) value 0 (rax-alone name other)) refl
-
-put-rcx : (registers : Registers) (at level : Vtl) (name : Name) (value : ℕ) → name ≢ names.Rcx → get (put registers at names.Rcx value) level name ≡ get registers level name
-put-rcx registers at Zero name value other = under (is_shared name) _ _ _ _ (get_or-set_other registers.shared (shared_place names.Rcx) (shared_place name) value 0 (rcx-alone name other)) refl
-put-rcx registers at One name value other = under (is_shared name) _ _ _ _ (get_or-set_other registers.shared (shared_place names.Rcx) (shared_place name) value 0 (rcx-alone name other)) refl
-
--- a register that stays in either case
-if-legal : (b : Bool) (new old : State) (level : Vtl) (name : Name) → get new.registers level name ≡ get old.registers level name → get (cond b new old).registers level name ≡ get old.registers level name
-if-legal true new old level name e = e
-if-legal false new old level name e = refl
-
-gone_on-keeps : (state : State) (level : Vtl) (name : Name) → ¬ ((level ≡ state.active) × (name ≡ names.Rip)) → get (gone_on state).registers level name ≡ get state.registers level name
-gone_on-keeps state level name other =
-    if-legal (is_legal names.Rip (rip_of state + 1)) (put_active state names.Rip (rip_of state + 1)) state level name (put-rip state.registers state.active level name (rip_of state + 1) other)
+use Rattle.vsm_core.proofs.KeptRegisters.{put-rax, put-rcx, if-legal, gone_on-keeps}
 
 with_pair-keeps : (state : State) (pair : Option (ℕ × ℕ)) (level : Vtl) (name : Name) → IsNotGiven pair name → get (with_pair state pair).registers level name ≡ get state.registers level name
 with_pair-keeps state None level name other = refl

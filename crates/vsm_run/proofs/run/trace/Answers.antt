@@ -1,6 +1,9 @@
-use Rattle.std.proofs.Common.{◌≡◌, ◌∙◌, ap, List, length}
+use Rattle.std.proofs.Common.{◌≡◌, ◌∙◌, ap, sym, subst, List, length}
 use Rattle.vsm_core.specs.declared.operation.Program.{Program}
-use Rattle.vsm_report.proofs.Stepping.{traced-flat}
+use Rattle.vsm_core.specs.Blocks.{IsWhole}
+use Rattle.vsm_report.specs.declared.report.Report.{Report}
+use Rattle.vsm_report.proofs.Serving.{served-are, run-whole}
+use Rattle.vsm_report.proofs.Stepping.{flat-journal, traced-flat}
 use Rattle.vsm_run.proofs.Reports.{report-traced}
 use Rattle.vsm_run.proofs.run.trace.Goals as goal
 
@@ -17,3 +20,12 @@ returns-clause-by_steps c =
 
 pub returns-clause-at_once : goal.returns-clause-at_once
 returns-clause-at_once c = returns-clause-by_steps c ∙ traced-flat c.args.script.now c.requires
+
+pub returns-clause-served : goal.returns-clause-served
+returns-clause-served c = served-are c.args.script.now
+
+pub returns-clause-journal : goal.returns-clause-journal
+returns-clause-journal c = ap (λ (r : Report). r.journal) (returns-clause-at_once c) ∙ flat-journal c.args.script.now
+
+pub returns-clause-whole : goal.returns-clause-whole
+returns-clause-whole c = subst (IsWhole c.args.script.now.limits.vps) (sym (returns-clause-journal c)) (run-whole c.args.script.now)

@@ -1,4 +1,4 @@
-use Rattle.std.proofs.Common.{◌≡◌, ◌≤◌, ◌+◌, length, drop, fold}
+use Rattle.std.proofs.Common.{◌≡◌, ◌≤◌, ◌+◌, ◌*◌, length, drop, fold}
 use Rattle.guest_script.specs.Schedules.{turns_of}
 use Rattle.vsm_report.specs.Schedule.{after_entry}
 use Rattle.vsm_report.specs.Trace.{stepped}
@@ -8,7 +8,7 @@ use Rattle.vsm_run.proofs.run.Run.line.Given as goal
 abbrev pub invariant-loop-turns : goal.invariant-loop-turns
 invariant-loop-turns l = record {
   acts : fold (after_entry (stepped l.programs)) l.self.world (drop l.turns-index l.entries) ≡ fold (after_entry (stepped l.programs)) l.fn.self.world l.entries;
-  grows : length l.self.world.lines + turns_of (drop l.turns-index l.entries) ≤ length l.fn.self.world.lines + turns_of l.entries;
+  grows : length l.self.world.lines + 2 * turns_of (drop l.turns-index l.entries) ≤ length l.fn.self.world.lines + 2 * turns_of l.entries;
   fits : Fits l.programs l.self.world.vps;
   room : l.self.room ≡ l.fn.self.room;
   limits : l.self.limits ≡ l.fn.self.limits;

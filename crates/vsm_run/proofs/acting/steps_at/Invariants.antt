@@ -1,7 +1,7 @@
 use Rattle.std.proofs.Common.{◌≡◌, ◌+◌, ◌-◌, length}
 use Rattle.vsm_core.specs.Processor.{operation_at}
 use Rattle.vsm_run.specs.Wholes.{IsOn}
-use Rattle.vsm_run.proofs.acting.attempt_at.Given as goal
+use Rattle.vsm_run.proofs.acting.steps_at.Given as goal
 
 abbrev pub invariant-turns : goal.invariant-turns
 invariant-turns l = record {
@@ -10,4 +10,4 @@ invariant-turns l = record {
 }
 
 abbrev pub decreases-turns : goal.decreases-turns
-decreases-turns l = (l.cpu.first + 28) - length l.cpu.seen
+decreases-turns l = (l.cpu.first + 35) - length l.cpu.seen

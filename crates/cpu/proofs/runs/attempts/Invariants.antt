@@ -1,5 +1,5 @@
 use Rattle.cpu.specs.Turns.{VpServes, Fits}
-use Rattle.cpu.proofs.tests.attempts.Given as goal
+use Rattle.cpu.proofs.runs.attempts.Given as goal
 
 abbrev pub invariant-attempts : goal.invariant-attempts
 invariant-attempts g l = record { fits : Fits l.program l.cpu; serves : VpServes l.cpu (g.P.Port.seat l.port) }

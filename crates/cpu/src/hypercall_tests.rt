@@ -1,0 +1,217 @@
+use super::*;
+use crate::left::Left;
+use crate::runs::{Answer, Opening, Put, Run, Way, leaves};
+use std::alloc::Global;
+use std::test::Fail;
+use vsm_base::{Access, Mask, Name, Page, Vtl};
+use vsm_core::{Denial, Ending, Event, GuestFault, Op, Posted, What};
+
+/// A hypercall, and an operation behind it.
+const CALLS: [Op; 2] = [Op::Hypercall, Op::Get(Name::Rax)];
+
+/// The input values of HvCallEnablePartitionVtl in memory and in registers, and of HvCallEnableVpVtl.
+const ENABLE_PARTITION: u128 = 0xD;
+
+const ENABLE_PARTITION_FAST: u128 = 0x1_000D;
+
+const ENABLE_VP: u128 = 0xF;
+
+/// The caller's own partition.
+const SELF: u64 = u64::MAX;
+
+/// Makes a hypercall with these in Rcx, Rdx and R8, by processor 0 over a port that answers so.
+fn calls<'a>(
+    alloc: Global,
+    level: Vtl,
+    puts: &'a [Put],
+    answers: &'a [u64],
+    left: &[Left],
+) -> Result<(), Fail> {
+    let run = Run {
+        zero: &CALLS,
+        one: &CALLS,
+        opening: Opening::Both(level, puts, &[]),
+        way: Way::Fed(answers),
+        attempts: 1,
+        turns: 0,
+    };
+    leaves(alloc, &run, left)
+}
+
+/// Fails unless a hypercall with these in Rcx and Rdx is refused at once, and only RAX and Rip change.
+fn is_refused(alloc: Global, value: u128, address: u128, status: u64) -> Result<(), Fail> {
+    let puts = [
+        (Vtl::Zero, Name::Rcx, value),
+        (Vtl::Zero, Name::Rdx, address),
+        (Vtl::Zero, Name::Rax, 0x77),
+    ];
+    let left = [
+        Left::Last(Answer::Attempt),
+        Left::Whats(&[What::Reply(status)]),
+        Left::Seen(&[]),
+        Left::Register(Vtl::Zero, Name::Rax, u128::from(status)),
+        Left::Register(Vtl::Zero, Name::Rcx, value),
+        Left::Register(Vtl::Zero, Name::Rdx, address),
+        Left::Register(Vtl::Zero, Name::Rip, 1),
+    ];
+    calls(alloc, Vtl::Zero, &puts, &[], &left)
+}
+
+/// Fails unless a fast call for this partition comes to this status.
+fn comes_to(alloc: Global, partition: u128, status: u64) -> Result<(), Fail> {
+    let puts = [
+        (Vtl::Zero, Name::Rcx, ENABLE_PARTITION_FAST),
+        (Vtl::Zero, Name::Rdx, partition),
+        (Vtl::Zero, Name::R8, 1),
+    ];
+    let left = [
+        Left::Last(Answer::Attempt),
+        Left::Whats(&[What::Reply(status)]),
+        Left::Seen(&[]),
+        Left::Register(Vtl::Zero, Name::Rax, u128::from(status)),
+        Left::Register(Vtl::Zero, Name::Rip, 1),
+    ];
+    calls(alloc, Vtl::Zero, &puts, &[], &left)
+}
+
+#[test]
+fn a_call_is_refused_before_its_first_step(rt: HostRuntime) -> Result<(), Fail> {
+    let alloc = rt.alloc();
+    is_refused(alloc, 0x99, 0x1001, 0x02)?;
+    is_refused(alloc, ENABLE_VP | 1 << 16, 0x1001, 0x03)?;
+    is_refused(alloc, ENABLE_VP, 0x1001, 0x04)?;
+    is_refused(alloc, ENABLE_VP, 0x2F18, 0x03)?;
+    is_refused(alloc, ENABLE_VP, 0x2F10, 0x05)
+}
+
+#[test]
+fn a_call_is_made_at_privilege_level_0(rt: HostRuntime) -> Result<(), Fail> {
+    let puts = [(Vtl::Zero, Name::Rcx, 0x99), (Vtl::Zero, Name::Cs, 3 << 96)];
+    let fault = GuestFault::Undefined;
+    let left = [
+        Left::Last(Answer::Ended(Ending::Fault(fault))),
+        Left::Whats(&[What::Fault(fault)]),
+        Left::Seen(&[]),
+        Left::Register(Vtl::Zero, Name::Rax, 0),
+    ];
+    calls(rt.alloc(), Vtl::Zero, &puts, &[], &left)
+}
+
+#[test]
+fn a_fast_call_asks_by_two_registers(rt: HostRuntime) -> Result<(), Fail> {
+    comes_to(rt.alloc(), u128::from(SELF), 0)?;
+    comes_to(rt.alloc(), 5, 0x0D)
+}
+
+#[test]
+fn a_call_reads_thirty_words_and_enables_level_1(rt: HostRuntime) -> Result<(), Fail> {
+    let run = Run {
+        zero: &[
+            Op::Set(Name::Rcx, ENABLE_VP),
+            Op::Set(Name::Rdx, 0x1F10),
+            Op::Hypercall,
+            Op::Eoi,
+        ],
+        one: &[Op::Eoi; 8],
+        opening: Opening::Alone,
+        way: Way::Fed(&[3, 15, SELF, 0x1_0000_0000, 7, 0x3000, 2]),
+        attempts: 3,
+        turns: 0,
+    };
+    let page = Page(1);
+    let generation = 3;
+    let left = [
+        Left::Last(Answer::Attempt),
+        Left::What(2, What::Reply(0)),
+        Left::Many(2, 34),
+        Left::Event(2, 1, Event::Check { generation }),
+        Left::Event(
+            2,
+            4,
+            Event::Read {
+                page,
+                index: 483,
+                value: 0x1_0000_0000,
+            },
+        ),
+        Left::Event(
+            2,
+            32,
+            Event::Read {
+                page,
+                index: 511,
+                value: 0,
+            },
+        ),
+        Left::Event(2, 33, Event::Leave),
+        Left::Enabled(true),
+        Left::Active(Vtl::Zero),
+        Left::Register(Vtl::One, Name::Rip, 7),
+        Left::Register(Vtl::One, Name::Rsp, 0x3000),
+        Left::Register(Vtl::Zero, Name::Rip, 3),
+        Left::Register(Vtl::Zero, Name::Rsp, 0),
+    ];
+    leaves(rt.alloc(), &run, &left)
+}
+
+#[test]
+fn an_input_that_may_not_be_read_is_denied(rt: HostRuntime) -> Result<(), Fail> {
+    let puts = [
+        (Vtl::Zero, Name::Rcx, ENABLE_PARTITION),
+        (Vtl::Zero, Name::Rdx, 0x1008),
+    ];
+    let mask = Mask::of(0).unwrap_or(Mask::all());
+    let page = Page(1);
+    let denial = Denial {
+        page,
+        mask,
+        generation: 3,
+        access: Access::Read,
+        posted: Posted::Waiting,
+    };
+    let generation = 3;
+    let left = [
+        Left::Whats(&[What::Denied(denial)]),
+        Left::Seen(&[
+            Event::Enter,
+            Event::Check { generation },
+            Event::Mask { page, mask },
+            Event::Leave,
+        ]),
+        Left::Active(Vtl::One),
+        Left::Register(Vtl::Zero, Name::Rip, 0),
+        Left::Register(Vtl::Zero, Name::Rax, 0),
+    ];
+    calls(rt.alloc(), Vtl::Zero, &puts, &[3, 0], &left)
+}
+
+#[test]
+fn no_mask_binds_level_1(rt: HostRuntime) -> Result<(), Fail> {
+    let puts = [
+        (Vtl::One, Name::Rcx, ENABLE_PARTITION),
+        (Vtl::One, Name::Rdx, 0x1008),
+    ];
+    let page = Page(1);
+    let generation = 3;
+    let left = [
+        Left::Whats(&[What::Reply(0x0D)]),
+        Left::Seen(&[
+            Event::Enter,
+            Event::Check { generation },
+            Event::Read {
+                page,
+                index: 1,
+                value: 6,
+            },
+            Event::Read {
+                page,
+                index: 2,
+                value: 1,
+            },
+            Event::Leave,
+        ]),
+        Left::Register(Vtl::One, Name::Rax, 0x0D),
+        Left::Register(Vtl::One, Name::Rip, 1),
+    ];
+    calls(rt.alloc(), Vtl::One, &puts, &[3, 6, 1], &left)
+}

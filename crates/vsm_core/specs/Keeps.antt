@@ -1,0 +1,47 @@
+-- What attempts leave as it was.
+use Rattle.std.specs.Prelude.{◌≡◌, ◌≢◌, ℕ, List, [], ◌∷◌}
+use Rattle.vsm_base.specs.declared.name.Name.{Name}
+use Rattle.vsm_base.specs.declared.name.Name.TheVariants as names
+use Rattle.vsm_base.specs.declared.places.Vtl.{Vtl}
+use Rattle.vsm_base.specs.declared.places.Vtl.TheVariants.{Zero, One}
+use Rattle.vsm_core.specs.declared.operation.Program.{Program}
+use Rattle.vsm_core.specs.declared.partition_state.PartitionState.{PartitionState}
+use Rattle.vsm_core.specs.declared.request.Reply.{Reply}
+use Rattle.vsm_core.specs.Outcomes.{Origin, Outcome}
+use Rattle.vsm_core.specs.Processor.{Vp, attempted}
+use Rattle.vsm_core.specs.Registers.{get, private_of}
+use Rattle.vsm_core.specs.State.{State}
+use Rattle.vsm_core.specs.Tree.{Tree, Ends, Asks, Wants}
+use Rattle.vsm_core.specs.Whole.{Flat}
+
+-- whatever is answered, this holds at each end
+abbrev pub EndsIn : {A : Type 0} → (A → Type 0) → Tree A → Type 0
+EndsIn Q (Ends a) = Q a
+EndsIn Q (Asks s k) = (x : ℕ) → EndsIn Q (k x)
+EndsIn Q (Wants q k) = (r : Reply) → EndsIn Q (k r)
+
+abbrev pub other_level : Vtl → Vtl
+other_level Zero = One
+other_level One = Zero
+
+-- unless level 1 was enabled, the registers stay that are the other level's own
+abbrev pub KeepsOther : State → State → Type 0
+KeepsOther old new = new.enabled ≡ old.enabled → private_of new.registers (other_level old.active) ≡ private_of old.registers (other_level old.active)
+
+-- all stays but RAX and the active level's Rip
+pub record KeepsTheRest (from : Origin) (o : Outcome) : Type 0 where
+  pub registers : (level : Vtl) (name : Name) → ¬ ((level ≡ from.state.active) × (name ≡ names.Rip)) → name ≢ names.Rax → get o.state.registers level name ≡ get from.state.registers level name
+  pub active : o.state.active ≡ from.state.active
+  pub enabled : o.state.enabled ≡ from.state.enabled
+  pub controllers : o.controllers ≡ from.controllers
+
+-- a processor after attempts one after the other, over partitions, masks, generations and words of whatever kind
+abbrev pub after_attempts : Program → Vp → List (PartitionState × Flat) → Vp
+after_attempts program v [] = v
+after_attempts program v (e ∷ es) = after_attempts program (attempted program v e.0 e.1).vp es
+
+-- each of them begins at the other level, and none enables level 1
+abbrev pub IsAway : Vtl → Program → Vp → List (PartitionState × Flat) → Type 0
+IsAway level program v [] = Unit {0}
+IsAway level program v (e ∷ es) =
+    (v.state.active ≡ other_level level) × ((attempted program v e.0 e.1).vp.state.enabled ≡ v.state.enabled) × IsAway level program (attempted program v e.0 e.1).vp es
