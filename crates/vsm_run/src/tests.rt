@@ -3,8 +3,8 @@ use super::trace;
 use guest_script::read;
 use std::alloc::Global;
 use std::test::Fail;
-use vsm_base::{Access, Mask, Page, VpIndex, Vtl};
-use vsm_core::{Denial, Ending, Event, Grant, Mark, Posted, What};
+use vsm_base::{Access, HvStatus, Mask, Page, VpIndex, Vtl};
+use vsm_core::{Denial, Ending, Entry, Event, Grant, Mark, Posted, What};
 use vsm_report::{Line, Report};
 
 // Processor 1 waits for the word that processor 0 writes, and reads the one behind it.
@@ -16,6 +16,11 @@ schedule 1 0*3\nschedule 1*4 0\nend\n";
 const IN_VAIN: &[u8] = b"vsm 1\nvps 2\npages 2\nbudget 10\nstarted 2\nmask 1 1\n\
 program 1 0\nspin 0x1000 5\nprogram 0 0\nstore 0x1000 5\n\
 schedule 1*2 0*2 1\nend\n";
+
+// Processor 0 enables level 1 for its partition by a fast call, and then once more.
+const ENABLES_TWICE: &[u8] = b"vsm 1\nvps 1\npages 1\nbudget 10\nstarted 1\n\
+program 0 0\nset Rcx 0x1000d\nset Rdx 0xffffffffffffffff\nset R8 1\nhypercall\nhypercall\n\
+schedule 0*5\nend\n";
 
 fn run(alloc: Global, script: &[u8]) -> Result<Report, Fail> {
     let script = read(alloc, script).or(Err("no script"))?;
@@ -120,5 +125,23 @@ fn a_spin_in_vain_is_cut_and_each_of_its_lines_stays(rt: HostRuntime) -> Result<
     let masks = [Mask::all(), mask];
     assert_eq!(rt; report.masks.as_slice(), masks.as_slice());
     assert_eq!(rt; report.words.as_slice().get(512), Some(&0));
+    Ok(())
+}
+
+#[test]
+fn the_line_of_an_entry_comes_before_that_of_the_mark(rt: HostRuntime) -> Result<(), Fail> {
+    let report = run(rt.alloc(), ENABLES_TWICE)?;
+    let by = VpIndex(0);
+    let status = HvStatus::VTL_ALREADY_ENABLED;
+    let entries = [Entry::Enable { by }, Entry::Refuse { by, status }];
+    assert_eq!(rt; report.journal.as_slice(), entries.as_slice());
+    let lines = [
+        Line::Entry(Entry::Enable { by }),
+        Line::Mark(by, mark(3, What::Reply(0), 0, 0)),
+        Line::Entry(Entry::Refuse { by, status }),
+        Line::Mark(by, mark(4, What::Reply(0x86), 0, 0)),
+    ];
+    assert_eq!(rt; report.lines.len(), 7);
+    assert_eq!(rt; &report.lines.as_slice()[3..], lines.as_slice());
     Ok(())
 }
