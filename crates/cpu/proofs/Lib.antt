@@ -1,3 +1,4 @@
+pub mod Admissions
 pub mod Attempts
 pub mod Seen
 pub mod Spins
@@ -8,9 +9,14 @@ pub mod Planned
 pub mod Polls
 pub mod ContextGiven
 pub mod Judged
+pub mod Looked
 pub mod Marking
 pub mod InputWords
+pub mod Intercepted
+pub mod Replies
 pub mod Rests
 pub mod Steps
 pub mod Turning
 pub mod Switches
+pub mod SliceEnds
+pub mod SliceRests

@@ -16,6 +16,7 @@ marked_with v what state controllers ended = record v {
   marks = v.marks ++ mark_of v what ∷ [];
   part = length v.seen;
   first = length v.seen;
+  heard = None;
   ended = ended;
 }
 

@@ -1,15 +1,17 @@
 -- What is left of an attempt at its stages.
-use Rattle.std.proofs.Common.{◌≡◌, ◌≢◌, ◌∙◌, ◌<◌, ℕ, ◌==◌, ◌&&◌, Bool, true, false, cond, Option, Some, None, List, [], ◌∷◌, refl, sym, ap, subst, zero, suc, ◌+◌, ◌-◌, ◌/◌, ◌%◌, take}
+use Rattle.std.proofs.Common.{◌≡◌, ◌≢◌, ◌∙◌, ◌<◌, ℕ, ◌==◌, ◌&&◌, Bool, true, false, cond, Option, Some, None, List, [], ◌∷◌, refl, sym, ap, subst, zero, suc, ◌+◌, ◌-◌, ◌/◌, ◌%◌, take, drop}
 use Rattle.vsm_base.specs.declared.places.Access.{Access}
 use Rattle.vsm_base.specs.declared.places.Access.TheVariants.{Read, Write, Execute}
 use Rattle.vsm_core.specs.declared.mark.Grant.{Grant}
 use Rattle.vsm_base.specs.declared.name.Name.{Name}
 use Rattle.vsm_core.specs.declared.mark.GuestFault.{GuestFault}
 use Rattle.vsm_core.specs.declared.mark.GuestFault.TheVariants.{Gp, Undefined}
+use Rattle.vsm_core.specs.declared.mark.Posted.TheVariants.{Held}
 use Rattle.vsm_core.specs.declared.mark.What.{What}
 use Rattle.vsm_core.specs.declared.mark.What.TheVariants as whats
 use Rattle.vsm_core.specs.declared.mark.What.TheVariants.{Again}
 use Rattle.vsm_core.specs.declared.operation.Op.{Op}
+use Rattle.vsm_core.specs.declared.request.Heard.{Heard}
 use Rattle.vsm_core.specs.declared.operation.Op.TheVariants.{Set, Get, Load, Store, Exec, Spin, Jump, JumpNe, Hypercall, VtlCall, VtlReturn, Poll}
 use Rattle.vsm_core.specs.declared.operation.Op.TheVariants as ops
 use Rattle.vsm_core.specs.declared.mark.EomWord.TheVariants as eoms
@@ -18,16 +20,19 @@ use Rattle.vsm_core.specs.Access.{Goal, Decision, data_step, access}
 use Rattle.vsm_base.specs.declared.status.HvStatus.{HvStatus}
 use Rattle.hyper_abi.specs.Told.{row_for}
 use Rattle.vsm_core.specs.Calls.{Row, row_of, code_in, is_fast}
-use Rattle.vsm_core.specs.Hypercalls.{input_value, input_address, fast_words, input_refusal}
-use Rattle.vsm_core.specs.Attempt.{attempt, begun, by_refusal, by_memory, requests, left_for, left_with, goal_of, in_own_access, told_on, returns, eom_on, is_wanted, wanted_outcome, unwanted_outcome}
+use Rattle.vsm_core.specs.Hypercalls.{input_value, input_address, output_address, fast_words, input_refusal}
+use Rattle.vsm_core.specs.Attempt.{attempt, begun, by_refusal, by_memory, requests, left_for, left_with, goal_of, in_own_access, told_on, returns, eom_on, hits_on, intercepted, is_read_hit, is_write_hit, is_wanted, wanted_outcome, unwanted_outcome}
 use Rattle.vsm_core.specs.Controllers.{Controllers, message_page, eom_by, waiting_then, with_taken}
 use Rattle.vsm_core.specs.Fills.{Cached, Fill}
-use Rattle.vsm_core.specs.Outcomes.{Origin, Outcome, outcome_at, faulted, plain, loaded, passed, spun, set_outcome, get_outcome, empties, note_of, denied_outcome, held_outcome, eom_outcome}
+use Rattle.vsm_core.specs.Outcomes.{Origin, Outcome, outcome_at, faulted, plain, loaded, passed, spun, set_outcome, get_outcome, empties, note_of, register_note, denied_outcome, held_outcome, hit_outcome, eom_outcome}
 use Rattle.vsm_core.specs.Processor.{Vp, came_to, marked, settled}
+use Rattle.vsm_core.specs.RegisterCalls.{slice_outcome}
 use Rattle.vsm_core.specs.Registers.{is_legal}
+use Rattle.vsm_core.specs.Reps.{RepEnd, Refused as ByElement, GoesOn, Complete}
+use Rattle.rep_frame.specs.Slices.{end_of, setting_refusals}
 use Rattle.vsm_core.specs.State.{State, operand, privilege_of, gone_on, may_name, get, put}
-use Rattle.vsm_core.specs.Switch.{may_call, may_return, may_enter, called, returned, is_zero, assist_page, restored_from, by_call}
-use Rattle.vsm_core.specs.Tree.{Tree, Ends, Asks, Wants, WordStep, then_, asks_all, reads, follow}
+use Rattle.vsm_core.specs.Switch.{may_call, may_return, may_enter, called, returned, is_zero, assist_page, restored_from, by_call, by_interrupt}
+use Rattle.vsm_core.specs.Tree.{Tree, Ends, Asks, Wants, WordStep, then_, asks_all, reads, follow, followed}
 use Rattle.access_path.specs.declared.aim.Aim.{Aim}
 use Rattle.access_path.specs.declared.place.Place.{Place}
 use Rattle.access_path.specs.declared.place.Place.TheVariants.{Start, Check, TableMask, TableRead, DataMask, Data, Over}
@@ -35,19 +40,25 @@ use Rattle.access_path.specs.Rest.{Rest}
 use Rattle.cpu.specs.declared.decided.Decided.{Decided}
 use Rattle.cpu.specs.declared.decided.Decided.TheVariants as decisions
 use Rattle.cpu.specs.declared.stage.Stage.{Stage}
+use Rattle.cpu.specs.declared.decided.Intercept.{Intercept}
 use Rattle.cpu.specs.declared.decided.Refusal.{Refusal}
-use Rattle.cpu.specs.declared.stage.Stage.TheVariants.{Reach, Take, Judge, Touch, Input, Want, Leave, End}
+use Rattle.cpu.specs.declared.stage.Stage.TheVariants.{Reach, Take, Judge, Touch, Input, Depart, Want, Output, Leave, End}
 use Rattle.cpu.specs.declared.task.Taken.{Taken}
 use Rattle.cpu.specs.declared.task.Gate.{Gate}
 use Rattle.cpu.specs.declared.task.Gate.TheVariants.{Outside, Entered, Inside}
 use Rattle.cpu.specs.declared.task.Task.{Task}
 use Rattle.cpu.specs.declared.task.Task.TheVariants.{Look, Make, Rax, Rcx}
-use Rattle.cpu.specs.Results.{EndsAs, again_of, granted_of, local_outcome, polled_outcome, refusal_of, result_of, switched, told_or_held, with_does}
+use Rattle.cpu.specs.Results.{EndsAs, again_of, granted_of, hit_note, hit_or_held, local_outcome, polled_outcome, refusal_of, result_of, switched, told_or_held, with_does}
 use Rattle.cpu.specs.declared.input.Asked.{Asked}
 use Rattle.cpu.specs.declared.input.Input.{Input as Input_}
 use Rattle.cpu.specs.declared.input.Spot.{Spot}
 use Rattle.cpu.specs.declared.input.Spot.TheVariants as spots
-use Rattle.cpu.specs.Inputs.{spot_rest, words_of, asks_for}
+use Rattle.cpu.specs.Inputs.{spot_rest, words_of}
+use Rattle.cpu.specs.Outputs.{door_rest}
+use Rattle.cpu.specs.declared.input.Site.{Site}
+use Rattle.cpu.specs.declared.output.Door.{Door}
+use Rattle.cpu.specs.declared.output.Door.TheVariants as doors
+use Rattle.cpu.proofs.InputWords.{next-asks}
 use Rattle.cpu.specs.Tasks.{gate_rest, plan_steps, task_rest, taking_rest}
 use Rattle.vsm_core.specs.declared.mark.Ending.{Ending}
 use Rattle.cpu.specs.declared.cpu_turn.CpuTurn.TheVariants.{Moved}
@@ -94,15 +105,17 @@ gate-asks Outside inside a = (_, _, refl)
 gate-asks Entered inside a = (_, _, refl)
 gate-asks Inside inside a = a
 
-reads-asks : (page index count : ℕ) (found : List ℕ) (from : Origin) (code : ℕ) → IsAsking (reads page index count found (left_for from code))
-reads-asks page index zero found from code = (_, _, refl)
-reads-asks page index (suc count) found from code = (_, _, refl)
+spot-asks : (from : Origin) (i : Input_) (spot : Spot) → i.done < words_of i → IsAsking (spot_rest from i spot)
+spot-asks from i spots.Outside left = (_, _, refl)
+spot-asks from i spots.Entered left = (_, _, refl)
+spot-asks from i (spots.Masking generation) left = (_, _, refl)
+spot-asks from i (spots.OutputMasking generation site) left = (_, _, refl)
+spot-asks from i spots.Inside left = (_, _, next-asks from i left)
 
-spot-asks : (from : Origin) (i : Input_) (spot : Spot) → IsAsking (spot_rest from i spot)
-spot-asks from i spots.Outside = (_, _, refl)
-spot-asks from i spots.Entered = (_, _, refl)
-spot-asks from i (spots.Masking generation) = (_, _, refl)
-spot-asks from i spots.Inside = reads-asks (i.address / 4096) (i.address % 4096 / 8 + i.done) (words_of i.call - i.done) (take i.done i.words) from (row_for i.call).code
+door-asks : (from : Origin) (site : Site) (door : Door) (tree : Tree Outcome) → IsAsking (door_rest from site door tree)
+door-asks from site doors.Outside tree = (_, _, refl)
+door-asks from site doors.Entered tree = (_, _, refl)
+door-asks from site (doors.Masking generation) tree = (_, _, refl)
 
 -- a step is next at a stage from which one is made
 pub stage-asks : (from : Origin) (op : Op) (stage : Stage) (tree : Tree Outcome) → StageIs from.pages from.number stage → StageRest from op stage tree → ((asked : Asked) → stage ≢ Want asked) → ((decided : Decided) → stage ≢ End decided) → IsAsking tree
@@ -110,8 +123,10 @@ stage-asks from op (Reach path) tree is r not_want not_end = rw r.2 (then_-asks 
 stage-asks from op (Take taken) tree is r not_want not_end = rw r (taking-asks from taken is)
 stage-asks from op (Judge case) tree is r not_want not_end = absurd is
 stage-asks from op (Touch gate task) tree is r not_want not_end = rw r.1 (gate-asks gate (task_rest from op r.0 task) (task-asks from op r.0 task))
-stage-asks from op (Input input) tree is r not_want not_end = rw r.1 (spot-asks from input input.spot)
+stage-asks from op (Input input) tree is r not_want not_end = rw r.rest (spot-asks from input input.spot is.left)
+stage-asks from op (Depart asked) tree is r not_want not_end = (_, _, r)
 stage-asks from op (Want asked) tree is r not_want not_end = absurd (not_want asked refl)
+stage-asks from op (Output output) tree is r not_want not_end = rw r (door-asks from output.site output.door (task_rest from op [] (Make output.plan output.decided)))
 stage-asks from op (Leave decided) tree is r not_want not_end = (_, _, r.1)
 stage-asks from op (End decided) tree is r not_want not_end = absurd (not_end decided refl)
 
@@ -129,7 +144,9 @@ stage-open from op (Take taken) tree is r not_end = asking-open tree (stage-asks
 stage-open from op (Judge case) tree is r not_end = absurd is
 stage-open from op (Touch gate task) tree is r not_end = asking-open tree (stage-asks from op (Touch gate task) tree is r (λ asked e. cc) not_end)
 stage-open from op (Input input) tree is r not_end = asking-open tree (stage-asks from op (Input input) tree is r (λ asked e. cc) not_end)
+stage-open from op (Depart asked) tree is r not_end = asking-open tree (stage-asks from op (Depart asked) tree is r (λ other e. cc) not_end)
 stage-open from op (Want asked) tree is r not_end = rw r tt
+stage-open from op (Output output) tree is r not_end = asking-open tree (stage-asks from op (Output output) tree is r (λ asked e. cc) not_end)
 stage-open from op (Leave decided) tree is r not_end = asking-open tree (stage-asks from op (Leave decided) tree is r (λ asked e. cc) not_end)
 stage-open from op (End decided) tree is r not_end = absurd (not_end decided refl)
 
@@ -175,9 +192,14 @@ NoAgain-tree : (b : Bool) (t u : Tree Outcome) → NoAgain t → NoAgain u → N
 NoAgain-tree true t u h g = h
 NoAgain-tree false t u h g = g
 
-told-no-again : (told : Option ℕ) (reason : ℕ) (from : Origin) (state : State) → NoAgain (in_own_access (told_on told reason) (plain from state))
-told-no-again None reason from state = λ grant e. cc
-told-no-again (Some page) reason from state = tt
+told-no-again : (told : Option ℕ) (reason : ℕ) (o : Outcome) → NoAgain (Ends o) → NoAgain (in_own_access (told_on told reason) o)
+told-no-again None reason o h = h
+told-no-again (Some page) reason o h = tt
+
+-- a register that level 1 intercepts
+hits-no-again : (from : Origin) (note : Note) (page : Option ℕ) → NoAgain (hits_on from note page)
+hits-no-again from note None = told-no-again (assist_page from.pages from.state) by_interrupt (hit_outcome from note None) (λ grant e. cc)
+hits-no-again from note (Some page) = tt
 
 returns-no-again : (from : Origin) (given : Option ℕ) → NoAgain (returns from given)
 returns-no-again from None = λ grant e. cc
@@ -203,16 +225,23 @@ by_refusal-no-again from None None = λ grant e. cc
 by_refusal-no-again from (Some row) None = NoAgain-tree (is_fast (input_value from.state)) (requests from row.code (fast_words from.state)) (by_memory from row (input_address from.state)) tt tt
 
 pub attempt-no-again : (from : Origin) (op : Op) → NoAgain (attempt from op)
-attempt-no-again from (Set name value) = set-no-again from name value
-attempt-no-again from (Get name) = get-no-again from name
+attempt-no-again from (Set name value) =
+    let note : Note = register_note from true name value in
+    NoAgain-tree (is_write_hit from name value) (intercepted from note) (Ends (set_outcome from name value)) (hits-no-again from note (message_page from.pages from.state)) (set-no-again from name value)
+attempt-no-again from (Get name) =
+    let note : Note = register_note from false name 0 in
+    NoAgain-tree (is_read_hit from name) (intercepted from note) (Ends (get_outcome from name)) (hits-no-again from note (message_page from.pages from.state)) (get-no-again from name)
 attempt-no-again from (Load name gva) = begun-no-again from (loaded from.state name) (goal_of from.pages from.state Read true gva.0 0) _
 attempt-no-again from (Store gva what) = begun-no-again from (passed from.state) (goal_of from.pages from.state Write true gva.0 (operand from.state what)) _
 attempt-no-again from (Exec gva) = begun-no-again from (passed from.state) (goal_of from.pages from.state Execute false gva.0 0) _
 attempt-no-again from (Spin gva value) = begun-no-again from (spun from.state value) (goal_of from.pages from.state Read true gva.0 0) _
 attempt-no-again from (Jump rip) = λ grant e. cc
 attempt-no-again from (JumpNe name value rip) = λ grant e. cc
-attempt-no-again from Hypercall = NoAgain-tree (privilege_of from.state == 0) (by_refusal from (row_of (code_in (input_value from.state))) (input_refusal from.pages (row_of (code_in (input_value from.state))) (input_value from.state) (input_address from.state))) (Ends (faulted from Undefined)) (by_refusal-no-again from (row_of (code_in (input_value from.state))) (input_refusal from.pages (row_of (code_in (input_value from.state))) (input_value from.state) (input_address from.state))) (λ grant e. cc)
-attempt-no-again from VtlCall = NoAgain-tree (may_call from.state) (in_own_access (told_on (assist_page from.pages from.state) by_call) (plain from (called from.state))) (Ends (faulted from Undefined)) (told-no-again (assist_page from.pages from.state) by_call from (called from.state)) (λ grant e. cc)
+attempt-no-again from Hypercall =
+    let row : Option Row = row_of (code_in (input_value from.state)) in
+    let refusal : Option HvStatus = input_refusal from.pages row (input_value from.state) (input_address from.state) (output_address from.state) in
+    NoAgain-tree (privilege_of from.state == 0) (by_refusal from row refusal) (Ends (faulted from Undefined)) (by_refusal-no-again from row refusal) (λ grant e. cc)
+attempt-no-again from VtlCall = NoAgain-tree (may_call from.state) (in_own_access (told_on (assist_page from.pages from.state) by_call) (plain from (called from.state))) (Ends (faulted from Undefined)) (told-no-again (assist_page from.pages from.state) by_call (plain from (called from.state)) (λ grant e. cc)) (λ grant e. cc)
 attempt-no-again from VtlReturn = NoAgain-tree (may_return from.state) (returns from (restored_from from.pages from.state)) (Ends (faulted from Undefined)) (returns-no-again from (restored_from from.pages from.state)) (λ grant e. cc)
 attempt-no-again from Poll = tt
 attempt-no-again from ops.Eom = NoAgain-tree (is_zero from.state.active) (Ends (eom_outcome from None)) (eom_on from (message_page from.pages from.state) from.controllers.waiting) (eom-outcome-stays from None) (eom_on-no-again from (message_page from.pages from.state) from.controllers.waiting)
@@ -225,15 +254,19 @@ follow-Ends a (x ∷ xs) = follow-Ends a xs
 same-end : {A : Type 0} (a b : A) → Ends a ≡ Ends b → a ≡ b
 same-end a b e = cc
 
-ends-again : (tree : Tree Outcome) (answers : List ℕ) (o p : Outcome) (grant : Grant) → NoAgain tree → follow tree answers ≡ Ends o → o.what ≡ Again grant → tree ≡ Ends p → ⊥
-ends-again tree answers o p grant never ends again e =
+followed-Ends : {A : Type 0} (a : A) (heard : Option Heard) (xs : List ℕ) → followed (Ends a) heard xs ≡ Ends a
+followed-Ends a None xs = follow-Ends a xs
+followed-Ends a (Some h) xs = rw (follow-Ends a (take h.after xs)) (follow-Ends a (drop h.after xs))
+
+ends-again : (tree : Tree Outcome) (heard : Option Heard) (answers : List ℕ) (o p : Outcome) (grant : Grant) → NoAgain tree → followed tree heard answers ≡ Ends o → o.what ≡ Again grant → tree ≡ Ends p → ⊥
+ends-again tree heard answers o p grant never ends again e =
     let no_p : NoAgain (Ends p) = rw e at never in
-    let same : p ≡ o = same-end p o (sym (follow-Ends p answers) ∙ rw e at ends) in
+    let same : p ≡ o = same-end p o (sym (followed-Ends p heard answers) ∙ rw e at ends) in
     no_p grant (ap (λ (z : Outcome). z.what) same ∙ again)
 
 -- an attempt whose spin found another value has a first step
-pub again-asks : (from : Origin) (op : Op) (answers : List ℕ) (o p : Outcome) (grant : Grant) → follow (attempt from op) answers ≡ Ends o → o.what ≡ Again grant → attempt from op ≢ Ends p
-again-asks from op answers o p grant ends again e = ends-again (attempt from op) answers o p grant (attempt-no-again from op) ends again e
+pub again-asks : (from : Origin) (op : Op) (heard : Option Heard) (answers : List ℕ) (o p : Outcome) (grant : Grant) → followed (attempt from op) heard answers ≡ Ends o → o.what ≡ Again grant → attempt from op ≢ Ends p
+again-asks from op heard answers o p grant ends again e = ends-again (attempt from op) heard answers o p grant (attempt-no-again from op) ends again e
 
 same-some : {A : Type 0} (a b : A) → Some a ≡ Some b → a ≡ b
 same-some a b e = cc
@@ -283,20 +316,31 @@ denied-stays : (enters : Bool) (from : Origin) (r : Refusal) (slot : Option ℕ)
 denied-stays enters from r slot =
     NoAgain-cond enters (denied_outcome from (refusal_of r) (note_of from r.gva (refusal_of r)) slot []) (held_outcome from (refusal_of r) []) (λ grant e. cc) (λ grant e. cc)
 
+hit-stays : (enters : Bool) (from : Origin) (h : Intercept) (slot : Option ℕ) → NoAgain (Ends (hit_or_held enters from h slot))
+hit-stays enters from h slot = NoAgain-cond enters (hit_outcome from (hit_note from h) slot) (outcome_at from (whats.Hit Held) from.state []) (λ grant e. cc) (λ grant e. cc)
+
 polled-stays : (state : State) (controllers : Controllers) → NoAgain (Ends (polled_outcome state controllers))
 polled-stays state controllers =
     NoAgain-cond (is_wanted state controllers) (wanted_outcome state controllers) (unwanted_outcome state controllers) (λ grant e. cc) (λ grant e. cc)
+
+slice-stays : (from : Origin) (state : State) (does : List Cached) (end : RepEnd) → NoAgain (Ends (slice_outcome from state does end))
+slice-stays from state does (ByElement status done) = λ grant e. cc
+slice-stays from state does (GoesOn next) = λ grant e. cc
+slice-stays from state does (Complete done) = λ grant e. cc
 
 -- anything else
 pub result-stays : (from : Origin) (op : Op) (decided : Decided) (grant : Grant) → again_of op decided ≡ None → (result_of from op decided).what ≢ Again grant
 result-stays from op decisions.Local grant e = local-stays from op grant
 result-stays from op (decisions.Granted found) grant e = granted-stays from.state op found grant e
 result-stays from op (decisions.Denied r slot) grant e = denied-stays (may_enter from.state) from r slot grant
+result-stays from op (decisions.Hit h slot) grant e = hit-stays (may_enter from.state) from h slot grant
 result-stays from op (decisions.Fault fault) grant e = λ h. cc
 result-stays from op decisions.Called grant e = switched-stays (may_call from.state) from (called from.state) grant
 result-stays from op (decisions.Returned pair) grant e = switched-stays (may_return from.state) from (returned from.state pair) grant
 result-stays from op (decisions.Polled found) grant e = polled-stays from.state (with_taken from.controllers found) grant
 result-stays from op (decisions.Replied value context) grant e = λ h. cc
+result-stays from op (decisions.Part next) grant e = λ h. cc
+result-stays from op (decisions.Set target frame words) grant e = slice-stays from _ _ (end_of frame (setting_refusals from.state.active target frame words)) grant
 result-stays from op (decisions.Eom slot) grant e = eom-outcome-stays from slot grant
 
 came-marked : (what : What) (v : Vp) (o : Outcome) → ((grant : Grant) → what ≢ Again grant) → came_to what v o ≡ marked v o

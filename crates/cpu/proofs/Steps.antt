@@ -7,8 +7,8 @@ use Rattle.vsm_core.specs.Steps.{made, phase_after}
 use Rattle.vsm_core.specs.Tree.{Tree, Ends, Asks, Wants, WordStep, Entering, Checking, Masking, Reading, Writing, Leaving, Posting, Taking, then_}
 use Rattle.vsm_core.specs.Turns.{Turned}
 use Rattle.cpu.specs.declared.stage.Stage.{Stage}
-use Rattle.cpu.specs.declared.stage.Stage.TheVariants.{Reach, Take, Judge, Touch, Input, Want, Leave, End}
-use Rattle.cpu.specs.declared.task.Case.TheVariants.{Refused, Found, Polled}
+use Rattle.cpu.specs.declared.stage.Stage.TheVariants.{Reach, Take, Judge, Touch, Input, Depart, Want, Output, Leave, End}
+use Rattle.cpu.specs.declared.task.Case.TheVariants.{Refused, Found, Polled, Read}
 use Rattle.cpu.specs.declared.task.Gate.TheVariants as gates
 use Rattle.cpu.specs.declared.input.Spot.{Spot}
 use Rattle.cpu.specs.declared.input.Spot.TheVariants as spots
@@ -53,9 +53,12 @@ tidy-reached part first (Take taken) phase is at h = absurd is
 tidy-reached part first (Judge (Refused r)) phase is at h = in-tidy part first phase at h
 tidy-reached part first (Judge (Found matter word)) phase is at h = absurd is
 tidy-reached part first (Judge (Polled found)) phase is at h = absurd is
+tidy-reached part first (Judge (Read input)) phase is at h = absurd is
 tidy-reached part first (Touch gate task) phase is at h = absurd is
 tidy-reached part first (Input input) phase is at h = absurd is
+tidy-reached part first (Depart asked) phase is at h = absurd is
 tidy-reached part first (Want asked) phase is at h = absurd is
+tidy-reached part first (Output output) phase is at h = absurd is
 tidy-reached part first (Leave decided) phase is at h = in-tidy part first phase at h
 tidy-reached part first (End decided) phase is at h = absurd is
 
@@ -83,6 +86,7 @@ tidy-spot : (part first : ℕ) (s : WordStep) (x : ℕ) (spot : Spot) (next : St
 tidy-spot part first s x spots.Outside next before now e goes was h = tidy-entering part _ next now goes (rw e (tidy-after part first s x before h))
 tidy-spot part first s x spots.Entered next before now e goes was h = tidy-entering part _ next now goes (rw e (tidy-after part first s x before h))
 tidy-spot part first s x (spots.Masking generation) next before now e goes was h = tidy-same part _ next now (same-after part first s x (in-tidy part first before was h))
+tidy-spot part first s x (spots.OutputMasking generation site) next before now e goes was h = tidy-same part _ next now (same-after part first s x (in-tidy part first before was h))
 tidy-spot part first s x spots.Inside next before now e goes was h = tidy-same part _ next now (same-after part first s x (in-tidy part first before was h))
 
 -- what was tidy is tidy after the step

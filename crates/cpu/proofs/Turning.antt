@@ -1,49 +1,47 @@
 -- A turn, by what its step did.
 use Rattle.std.proofs.Common.{◌≡◌, ◌≢◌, ◌∙◌, ◌+◌, ◌≤◌, ℕ, suc, false, List, [], ◌∷◌, ◌++◌, length, drop, refl, sym, ap, subst, arith, Option, Some, None, IfSome, length-append, length-drop}
+use Rattle.std.proofs.lemmas.List.{length-map}
 use Rattle.vsm_core.specs.declared.event.Event.{Event}
 use Rattle.vsm_core.specs.declared.mark.Ending.{Ending}
 use Rattle.vsm_core.specs.declared.mark.Grant.{Grant}
 use Rattle.vsm_core.specs.declared.mark.What.{What}
 use Rattle.vsm_core.specs.declared.mark.What.TheVariants as whats
 use Rattle.vsm_core.specs.declared.operation.Op.{Op}
-use Rattle.vsm_base.specs.declared.places.Vtl.{Vtl}
+use Rattle.vsm_core.specs.declared.request.Heard.{Heard}
 use Rattle.vsm_core.specs.declared.request.Reply.{Reply}
 use Rattle.vsm_core.specs.declared.request.Request.{Request}
-use Rattle.vsm_core.specs.Calls.{result_value}
-use Rattle.vsm_core.specs.Hypercalls.{own_context, replied}
 use Rattle.cpu.specs.declared.cpu_turn.CpuTurn.TheVariants as turns
-use Rattle.cpu.specs.declared.decided.Decided.TheVariants.{Replied}
 use Rattle.cpu.specs.declared.input.Asked.{Asked}
-use Rattle.cpu.specs.declared.stage.Stage.TheVariants.{Want}
 use Rattle.cpu.specs.Inputs.{asks_for, request_for}
-use Rattle.cpu.specs.Results.{result_of}
 use Rattle.vsm_core.specs.Attempt.{attempt, most_steps, most_steps_of}
 use Rattle.vsm_core.specs.Outcomes.{Origin, Outcome}
-use Rattle.vsm_core.specs.Processor.{Vp, answers_of, origin_of, came_to, ending_after, marked, marked_or_ended, rest_of, settled, standing, asking, answered}
+use Rattle.vsm_core.specs.Processor.{Vp, answers_of, origin_of, came_to, ending_after, marked_or_ended, rest_of, settled, standing, asking}
 use Rattle.vsm_core.specs.Seat.{Seat, Makes}
 use Rattle.vsm_core.specs.State.{State}
-use Rattle.vsm_core.specs.Steps.{made, phase_after}
-use Rattle.vsm_core.specs.Tree.{Tree, Ends, Asks, Wants, WordStep, after, follow, Counts}
+use Rattle.vsm_core.specs.Steps.{learned, made, phase_after}
+use Rattle.vsm_core.specs.Tree.{Tree, Ends, Asks, Wants, WordStep, after, Counts}
 use Rattle.vsm_core.specs.Turns.{Turned}
-use Rattle.vsm_core.proofs.Bounds.{follow-append, Counts-asks, Counts-most, most_steps-few}
+use Rattle.vsm_core.proofs.Bounds.{followed-append, Counts-asks, Counts-most, most_steps-few}
 use Rattle.cpu.specs.declared.cpu_turn.CpuTurn.{CpuTurn}
 use Rattle.cpu.specs.declared.stage.StageStep.{StageStep}
 use Rattle.cpu.specs.declared.stage.Under.{Under}
 use Rattle.cpu.specs.Logs.{first_by, seen_by}
 use Rattle.vsm_core.specs.declared.event.Phase.{Phase}
 use Rattle.cpu.specs.declared.stage.Stage.{Stage}
-use Rattle.cpu.specs.Stages.{StageIs, StageMay, StageAt, StageRest, StageSteps, IsTidy, IsUnderWay, Means, IsWant, op_of}
-use Rattle.cpu.specs.Turns.{TurnsBy, AcceptsBy, after_mark, answer_at, phase_at}
+use Rattle.cpu.specs.Stages.{StageIs, StageMay, StageAt, StageRest, StageSteps, IsHeard, IsTidy, IsUnderWay, Means, led_to, op_of}
+use Rattle.cpu.specs.Turns.{TurnsBy, answer_at, phase_at}
 use Rattle.cpu.proofs.Rests.{NoAgain, attempt-no-again}
 use Rattle.cpu.proofs.Attempts.{none-seen}
+use Rattle.cpu.proofs.Replies.{heard-on, heard-within}
 use Rattle.cpu.proofs.Seen.{own-by, answers-by, phase-by, saw-by, saw_so}
 use Rattle.cpu.proofs.Steps.{tidy-step}
 
--- an attempt of this operation is at a stage where these events of its own have led
-pub record IsLed (from : Origin) (op : Op) (stage : Stage) (seen : List Event) (part first : ℕ) : Type 0 where
+-- an attempt of this operation is at a stage where these events of its own, and the reply that it has had, have led
+pub record IsLed (from : Origin) (op : Op) (heard : Option Heard) (stage : Stage) (seen : List Event) (part first : ℕ) : Type 0 where
   pub may : StageMay from.pages from.number stage
-  pub rest : StageRest from op stage (follow (attempt from op) (answers_of seen first))
-  pub counts : Counts most_steps (length (drop first seen)) (follow (attempt from op) (answers_of seen first))
+  pub rest : StageRest from op stage (led_to from op heard seen first)
+  pub counts : Counts most_steps (length (drop first seen)) (led_to from op heard seen first)
+  pub hears : IfSome heard (IsHeard (led_to from op heard seen first) (length (drop first seen)))
   pub phase : StageAt stage (phase_at seen first)
   pub tidy : IsTidy part first stage (phase_at seen first)
 
@@ -54,31 +52,32 @@ pub record GoesOnFrom (from : Origin) (op : Op) (stage next : Stage) : Type 0 wh
   pub at : (phase : Phase) → StageAt stage phase → StageAt next phase
   pub tidy : (part first : ℕ) (phase : Phase) → IsTidy part first stage phase → IsTidy part first next phase
 
-pub led-under : (from : Origin) (op : Op) (stage next : Stage) (seen : List Event) (part first : ℕ) → IsLed from op stage seen part first → GoesOnFrom from op stage next → IsUnderWay from (record { op = op; stage = next }) seen part first
-led-under from op stage next seen part first led on = record {
+pub led-under : (from : Origin) (op : Op) (heard : Option Heard) (stage next : Stage) (seen : List Event) (part first : ℕ) → IsLed from op heard stage seen part first → GoesOnFrom from op stage next → IsUnderWay from (record { op = op; stage = next }) heard seen part first
+led-under from op heard stage next seen part first led on = record {
   is = on.is;
   rest = on.rest _ led.rest;
   counts = led.counts;
+  hears = led.hears;
   phase = on.at _ led.phase;
   tidy = on.tidy part first _ led.tidy;
 }
 
 -- an event more has led there
-abbrev pub LedBy : Origin → Op → StageStep → List Event → ℕ → ℕ → Event → Type 0
-LedBy from op step seen part first e = IsLed from op step.stage (seen_by seen part first e) part (first_by part first e)
+abbrev pub LedBy : Origin → Op → Option Heard → StageStep → List Event → ℕ → ℕ → Event → Type 0
+LedBy from op heard step seen part first e = IsLed from op heard step.stage (seen_by seen part first e) part (first_by part first e)
 
 -- what a step did to the attempt under way
-pub record Stepped (from : Origin) (op : Op) (seen : List Event) (part first : ℕ) (old new : Seat) (step : StageStep) : Type 0 where
+pub record Stepped (from : Origin) (op : Op) (heard : Option Heard) (seen : List Event) (part first : ℕ) (old new : Seat) (step : StageStep) : Type 0 where
   pub s : WordStep
   pub x : ℕ
   pub k : ℕ → Tree Outcome
-  pub asks : follow (attempt from op) (answers_of seen first) ≡ Asks s k
+  pub asks : led_to from op heard seen first ≡ Asks s k
   pub makes : Makes old s x new
   pub event : step.event ≡ made s x
-  pub few : length (seen_by seen part first step.event) ≤ first_by part first step.event + 34
-  pub more : follow (attempt from op) (answers_of (seen_by seen part first (made s x)) (first_by part first (made s x))) ≡ k x
+  pub few : length (seen_by seen part first step.event) ≤ first_by part first step.event + 38
+  pub more : led_to from op heard (seen_by seen part first (made s x)) (first_by part first (made s x)) ≡ k x
   pub phase : phase_at (seen_by seen part first step.event) (first_by part first step.event) ≡ new.phase
-  pub led : LedBy from op step seen part first step.event
+  pub led : LedBy from op heard step seen part first step.event
 
 turned-asks : {A : Type 0} (t : Tree A) (old new : Seat) (Q : Tree A → Type 0) → Turned t old new Q → (s : WordStep) × (x : ℕ) × (k : ℕ → Tree A) × (t ≡ Asks s k) × Makes old s x new × Q (k x)
 turned-asks (Ends a) old new Q h = absurd h
@@ -91,24 +90,26 @@ same-some a b e = cc
 some-reply : Reply
 some-reply = record { status = record { 0 = 0 }; done = 0; value = 0; context = None }
 
-pub stepped : (from : Origin) (u : Under) (seen : List Event) (part first : ℕ) (old new : Seat) (step : StageStep) → part ≤ first → first ≤ length seen → old.phase ≡ phase_at seen first → IsUnderWay from u seen part first → StageSteps u.stage old new step
-    → Stepped from u.op seen part first old new step
-stepped from u seen part first old new step low le phase way steps =
-    let t = turned-asks (follow (attempt from u.op) (answers_of seen first)) old new (StageRest from u.op step.stage) (steps.turned from u.op _ way.rest) in
+pub stepped : (from : Origin) (u : Under) (heard : Option Heard) (seen : List Event) (part first : ℕ) (old new : Seat) (step : StageStep) → part ≤ first → first ≤ length seen → old.phase ≡ phase_at seen first → IsUnderWay from u heard seen part first → StageSteps u.stage old new step
+    → Stepped from u.op heard seen part first old new step
+stepped from u heard seen part first old new step low le phase way steps =
+    let t = turned-asks (led_to from u.op heard seen first) old new (StageRest from u.op step.stage) (steps.turned from u.op _ way.rest) in
     let event : step.event ≡ made t.0 t.1 = same-some _ _ (sym steps.event ∙ ap (λ (z : Seat). z.last) t.4.after) in
     let counts : Counts most_steps (suc (length (drop first seen))) (t.2 t.1) = Counts-asks most_steps _ t.0 t.2 _ t.1 t.3 way.counts in
-    let few : suc (length (drop first seen)) ≤ 34 = Counts-most most_steps 34 some-reply _ (t.2 t.1) most_steps-few counts in
+    let few : suc (length (drop first seen)) ≤ 38 = Counts-most most_steps 38 some-reply _ (t.2 t.1) most_steps-few counts in
     let answers : answers_of (seen_by seen part first (made t.0 t.1)) (first_by part first (made t.0 t.1)) ≡ answers_of seen first ++ t.1 ∷ [] = answers-by seen part first (made t.0 t.1) low le ∙ ap (λ z. answers_of seen first ++ z ∷ []) t.4.learns in
-    let more : follow (attempt from u.op) (answers_of (seen_by seen part first (made t.0 t.1)) (first_by part first (made t.0 t.1))) ≡ t.2 t.1 =
-    rw answers (follow-append (attempt from u.op) (answers_of seen first) t.1 ∙ ap (λ tree. after tree t.1) t.3) in
+    let within = heard-within heard _ _ (answers_of seen first) (length-map (drop first seen) learned) way.hears in
+    let more : led_to from u.op heard (seen_by seen part first (made t.0 t.1)) (first_by part first (made t.0 t.1)) ≡ t.2 t.1 =
+    rw answers (followed-append (attempt from u.op) heard (answers_of seen first) t.1 within ∙ ap (λ tree. after tree t.1) t.3) in
     let own : length (drop (first_by part first (made t.0 t.1)) (seen_by seen part first (made t.0 t.1))) ≡ suc (length (drop first seen)) = omega (arith, ap length (own-by seen part first (made t.0 t.1) low le), length-append (drop first seen) (made t.0 t.1 ∷ [])) in
-    let room : length (seen_by seen part first (made t.0 t.1)) ≤ first_by part first (made t.0 t.1) + 34 = omega (arith, few, own, length-drop (first_by part first (made t.0 t.1)) (seen_by seen part first (made t.0 t.1))) in
+    let room : length (seen_by seen part first (made t.0 t.1)) ≤ first_by part first (made t.0 t.1) + 38 = omega (arith, few, own, length-drop (first_by part first (made t.0 t.1)) (seen_by seen part first (made t.0 t.1))) in
     let now : new.phase ≡ phase_after (phase_at seen first) t.0 t.1 = ap (λ (z : Seat). z.phase) t.4.after ∙ ap (λ p. phase_after p t.0 t.1) phase in
     let phase_now : phase_at (seen_by seen part first (made t.0 t.1)) (first_by part first (made t.0 t.1)) ≡ new.phase = phase-by seen part first t.0 t.1 low le ∙ sym now in
-    let led : LedBy from u.op step seen part first (made t.0 t.1) = record {
+    let led : LedBy from u.op heard step seen part first (made t.0 t.1) = record {
       may = steps.is from.pages from.number way.is;
       rest = rw more t.5;
       counts = rw (own, more) counts;
+      hears = rw (own, more) (heard-on heard _ _ t.0 t.2 t.1 t.3 way.hears);
       phase = rw phase_now steps.at;
       tidy = subst (λ p. IsTidy part (first_by part first (made t.0 t.1)) step.stage p) (sym phase_now) (tidy-step part first t.0 t.1 u.stage step.stage (phase_at seen first) new.phase now steps.goes way.phase steps.at way.tidy);
     } in
@@ -119,14 +120,14 @@ stepped from u seen part first old new step low le phase way steps =
       asks = t.3;
       makes = t.4;
       event = event;
-      few = subst (λ e. length (seen_by seen part first e) ≤ first_by part first e + 34) (sym event) room;
+      few = subst (λ e. length (seen_by seen part first e) ≤ first_by part first e + 38) (sym event) room;
       more = more;
       phase = subst (λ e. phase_at (seen_by seen part first e) (first_by part first e) ≡ new.phase) (sym event) phase_now;
-      led = subst (LedBy from u.op step seen part first) (sym event) led;
+      led = subst (LedBy from u.op heard step seen part first) (sym event) led;
     }
 
 -- the turn that makes a step and settles
-pub turned-by : (v v1 n : Vp) (op : Op) (old new : Seat) (step : StageStep) (turn : CpuTurn) → (st : Stepped (origin_of v) op v.seen v.part v.first old new step) → v1 ≡ saw_so (Some op) v step.event → n ≡ settled (rest_of v1 v1.op) v1 → turn ≡ answer_at (rest_of v1 v1.op) n.ended
+pub turned-by : (v v1 n : Vp) (op : Op) (old new : Seat) (step : StageStep) (turn : CpuTurn) → (st : Stepped (origin_of v) op v.heard v.seen v.part v.first old new step) → v1 ≡ saw_so (Some op) v step.event → n ≡ settled (rest_of v1 v1.op) v1 → turn ≡ answer_at (rest_of v1 v1.op) n.ended
     → TurnsBy (rest_of v (Some op)) (Some op) v old n new turn
 turned-by v v1 n op old new step turn st e en et =
     let same : v1 ≡ saw_so (Some op) v (made st.s st.x) = e ∙ ap (saw_so (Some op) v) st.event in
@@ -149,17 +150,17 @@ pub local-by : (v v1 n : Vp) (op : Op) (o : Outcome) (seat : Seat) (turn : CpuTu
 local-by v v1 n op o seat turn ends e kept en et =
     rw ends (refl, (rw (e, ends) at en) ∙ came-stood o.what v op o kept, rw (e, ends) at et)
 
-fresh-no-again : (from : Origin) (op : Op) (seen : List Event) (first : ℕ) (o : Outcome) (grant : Grant) → first ≡ length seen → follow (attempt from op) (answers_of seen first) ≡ Ends o → o.what ≢ whats.Again grant
-fresh-no-again from op seen first o grant e ends =
+fresh-no-again : (from : Origin) (op : Op) (heard : Option Heard) (seen : List Event) (first : ℕ) (o : Outcome) (grant : Grant) → first ≡ length seen → heard ≡ None → led_to from op heard seen first ≡ Ends o → o.what ≢ whats.Again grant
+fresh-no-again from op heard seen first o grant e quiet ends =
     let none : drop first seen ≡ [] = none-seen seen first e in
-    let at : attempt from op ≡ Ends o = rw none at ends in
+    let at : attempt from op ≡ Ends o = rw (quiet, none) at ends in
     let never : NoAgain (Ends o) = rw at at (attempt-no-again from op) in
     never grant
 
 -- where nothing was done, a spin found another value only if its operation was kept
-pub again-kept : (from : Origin) (under : Option Under) (u : Under) (seen : List Event) (part first : ℕ) (o : Outcome) (grant : Grant) → Means from under seen part first → IfSome under (λ w. u ≡ w) → follow (attempt from u.op) (answers_of seen first) ≡ Ends o → o.what ≡ whats.Again grant → op_of under ≡ Some u.op
-again-kept from None u seen part first o grant means kept ends again = absurd (fresh-no-again from u.op seen first o grant means.0 ends again)
-again-kept from (Some w) u seen part first o grant means kept ends again = ap (λ (z : Under). Some z.op) (sym kept)
+pub again-kept : (from : Origin) (under : Option Under) (u : Under) (heard : Option Heard) (seen : List Event) (part first : ℕ) (o : Outcome) (grant : Grant) → Means from under heard seen part first → IfSome under (λ w. u ≡ w) → led_to from u.op heard seen first ≡ Ends o → o.what ≡ whats.Again grant → op_of under ≡ Some u.op
+again-kept from None u heard seen part first o grant means kept ends again = absurd (fresh-no-again from u.op heard seen first o grant means.0 means.2 ends again)
+again-kept from (Some w) u heard seen part first o grant means kept ends again = ap (λ (z : Under). Some z.op) (sym kept)
 
 -- a spin that found another value has had no more steps than a granted access may have
 pub again-few : (n : ℕ) (tree : Tree Outcome) (o : Outcome) (grant : Grant) → Counts most_steps n tree → tree ≡ Ends o → o.what ≡ whats.Again grant → n ≤ 13
@@ -172,13 +173,3 @@ again-few n tree o grant counts ends again =
 pub wanted-by : (v n : Vp) (op : Op) (from : Origin) (asked : Asked) (seat : Seat) (q : Request) → rest_of v (Some op) ≡ asks_for from asked → n ≡ asking (Some op) v → q ≡ request_for from asked
     → TurnsBy (rest_of v (Some op)) (Some op) v seat n seat (turns.Wants q)
 wanted-by v n op from asked seat q e en eq = rw e (refl, en, ap turns.Wants eq)
-
--- a stage that waits for a reply
-pub want-rest : (from : Origin) (op : Op) (stage : Stage) (tree : Tree Outcome) → IsWant stage → StageRest from op stage tree → (asked : Asked) × (tree ≡ asks_for from asked)
-want-rest from op (Want asked) tree is rest = (asked, rest)
-want-rest from op _ tree is rest = absurd is
-
--- the reply
-pub accepted-by : (v n : Vp) (from : Origin) (op : Op) (asked : Asked) (reply : Reply) (value : ℕ) (context : Option (Vtl × List ℕ)) (turn : CpuTurn) (tree : Tree Outcome) → tree ≡ asks_for from asked → value ≡ result_value reply.status reply.done → context ≡ own_context reply.context
-    → n ≡ marked (answered v) (result_of from op (Replied value context)) → turn ≡ after_mark (result_of from op (Replied value context)).what n.ended → AcceptsBy tree reply v n turn
-accepted-by v n from op asked reply value context turn tree e ev ec en et = rw e (replied from reply, refl, rw (ev, ec) at en, rw ev at et)

@@ -1,8 +1,12 @@
+pub mod Admitted
 pub mod Held
 pub mod Inputs
 pub mod Logs
 pub mod Looks
+pub mod Outputs
 pub mod Results
+pub mod Sites
+pub mod Slices
 pub mod Sound
 pub mod Stages
 pub mod Tasks

@@ -27,6 +27,7 @@ view_of c = record {
   again = c.log.again;
   spins = c.log.spins;
   owes = c.owes;
+  heard = c.heard;
   ended = c.log.ended;
 }
 
@@ -39,6 +40,7 @@ length_at zero_length one_length One = one_length
 pub record IsOwing (c : Inside) : Type 0 where
   pub going : c.log.ended ≡ None
   pub stood : c.log.again ≡ false
+  pub unheard : c.heard ≡ None
   pub wants : IsWanting c.under
 
 -- there is room for what the budget still allows, and the stage is where the events so far have led
@@ -49,15 +51,15 @@ pub record IsSound (c : Inside) : Type 0 where
   pub seen_room : c.log.seen.1 ≡ 64 * c.limits.budget
   pub marks_few : length c.log.marks.0 ≤ c.limits.budget
   pub notes : c.limits.budget ≤ c.controllers.synic.room + length (standing_of c.log.again c.log.marks.0)
-  pub part_few : c.log.part ≤ 34 * length (standing_of c.log.again c.log.marks.0)
+  pub part_few : c.log.part ≤ 38 * length (standing_of c.log.again c.log.marks.0)
   pub part_le : c.log.part ≤ c.log.first
   pub first_few : c.log.first ≤ c.log.part + 13
   pub first_le : c.log.first ≤ length c.log.seen.0
-  pub seen_few : length c.log.seen.0 ≤ c.log.first + 34
+  pub seen_few : length c.log.seen.0 ≤ c.log.first + 38
   pub room : c.log.ended ≡ None → length (standing_of c.log.again c.log.marks.0) < c.limits.budget
   pub running : c.started ≡ true → c.log.ended ≡ None → rip_of (state_of c.bank c.levels) < length_at c.zero_length c.one_length c.levels.active
   pub spins : c.log.ended ≡ None → c.log.spins < spin_limit
   pub owing : c.owes ≡ true → IsOwing c
   pub waits : c.started ≡ false → c.under ≡ None
   pub fresh : c.started ≡ false → c.log.again ≡ false
-  pub means : Means (origin_at c.limits.pages c.vp.0 c.bank c.levels c.controllers) c.under c.log.seen.0 c.log.part c.log.first
+  pub means : Means (origin_at c.limits c.vp.0 c.bank c.levels c.controllers) c.under c.heard c.log.seen.0 c.log.part c.log.first

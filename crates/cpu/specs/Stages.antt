@@ -1,31 +1,37 @@
 -- What is left of an attempt at a stage, and what a step from a stage is.
-use Rattle.std.specs.Prelude.{◌≡◌, ◌≢◌, ℕ, ◌<◌, Option, Some, None, Bool, true, false, List, drop, length, map}
+use Rattle.std.specs.Prelude.{◌≡◌, ◌≢◌, ℕ, ◌<◌, ◌≤◌, Option, Some, None, IfSome, Bool, true, false, List, drop, length}
 use Rattle.vsm_core.specs.declared.event.Event.{Event}
 use Rattle.vsm_core.specs.declared.event.Phase.{Phase}
 use Rattle.vsm_core.specs.declared.event.Phase.TheVariants.{Idle, Entered, In}
+use Rattle.vsm_core.specs.declared.mark.Grant.{Grant}
+use Rattle.vsm_core.specs.declared.mark.What.TheVariants.{Again}
 use Rattle.vsm_core.specs.declared.operation.Op.{Op}
+use Rattle.vsm_core.specs.declared.request.Heard.{Heard}
 use Rattle.vsm_core.specs.Access.{Decision}
 use Rattle.vsm_core.specs.Attempt.{attempt, leaves, left_with, most_steps}
 use Rattle.vsm_core.specs.Fills.{Cached}
 use Rattle.vsm_core.specs.Hypercalls.{call_of}
 use Rattle.vsm_core.specs.Outcomes.{Origin, Outcome}
+use Rattle.vsm_core.specs.Processor.{answers_of}
 use Rattle.vsm_core.specs.Seat.{Seat}
-use Rattle.vsm_core.specs.Steps.{IsIn, learned}
-use Rattle.vsm_core.specs.Tree.{Tree, Ends, Asks, then_, follow, Counts}
+use Rattle.vsm_core.specs.Steps.{IsIn}
+use Rattle.vsm_core.specs.Tree.{Tree, Ends, Asks, Wants, Leaving, then_, followed, Counts}
 use Rattle.vsm_core.specs.Turns.{Turned}
 use Rattle.access_path.specs.declared.place.Place.TheVariants.{Over}
 use Rattle.access_path.specs.Rest.{Rest, IsAt, Serves}
-use Rattle.cpu.specs.Inputs.{InputRest, InputIs, InputServes, SpotAt, asks_for, part_call}
+use Rattle.cpu.specs.Inputs.{AskedIs, InputRest, InputIs, InputRead, InputServes, ReadRest, SpotAt, asks_for, part_call}
+use Rattle.cpu.specs.declared.input.Asked.{Asked}
 use Rattle.cpu.specs.declared.input.Spot.{Spot}
 use Rattle.cpu.specs.declared.input.Spot.TheVariants as spots
 use Rattle.cpu.specs.declared.stage.Stage.{Stage}
-use Rattle.cpu.specs.declared.stage.Stage.TheVariants.{Reach, Take, Judge, Touch, Input, Want, Leave, End}
+use Rattle.cpu.specs.declared.stage.Stage.TheVariants.{Reach, Take, Judge, Touch, Input, Depart, Want, Output, Leave, End}
 use Rattle.cpu.specs.declared.stage.Under.{Under}
 use Rattle.cpu.specs.declared.stage.StageStep.{StageStep}
 use Rattle.cpu.specs.declared.task.Case.{Case}
-use Rattle.cpu.specs.declared.task.Case.TheVariants.{Refused}
+use Rattle.cpu.specs.declared.task.Case.TheVariants.{Refused, Read}
 use Rattle.cpu.specs.declared.task.Gate.{Gate}
 use Rattle.cpu.specs.declared.task.Gate.TheVariants.{Inside}
+use Rattle.cpu.specs.Outputs.{DoorAt, OutputIs, OutputServes, output_rest}
 use Rattle.cpu.specs.Results.{EndsAs, granted_of, result_of, with_does}
 use Rattle.cpu.specs.Tasks.{GateAt, CaseAt, TaskIs, TaskServes, gate_rest, task_rest, taking_rest, case_rest}
 use Rattle.cpu.specs.Turns.{phase_at}
@@ -34,14 +40,25 @@ use Rattle.cpu.specs.Turns.{phase_at}
 abbrev pub LeavesAs : Tree Outcome → Outcome → Type 0
 LeavesAs tree o = (does : List Cached) × (tree ≡ left_with (with_does does o))
 
+-- what is left where the state decides
+abbrev pub CaseRest : Origin → Case → Tree Outcome → Type 0
+CaseRest from (Read input) tree = ReadRest from input tree
+CaseRest from case tree = (does : List Cached) × (tree ≡ case_rest from does case)
+
+-- the access is left, and then this is asked of the partition
+abbrev pub departs : Origin → Asked → Tree Outcome
+departs from asked = Asks Leaving (λ _. asks_for from asked)
+
 -- what is left of an attempt of this operation at a stage
 abbrev pub StageRest : Origin → Op → Stage → Tree Outcome → Type 0
 StageRest from op (Reach path) tree = (t : Tree Decision) × Rest path.aim path.place t × (tree ≡ then_ t (leaves from path.aim.gva.0 (granted_of from.state op)))
 StageRest from op (Take taken) tree = tree ≡ taking_rest from taken
-StageRest from op (Judge case) tree = (does : List Cached) × (tree ≡ case_rest from does case)
+StageRest from op (Judge case) tree = CaseRest from case tree
 StageRest from op (Touch gate task) tree = (does : List Cached) × (tree ≡ gate_rest gate (task_rest from op does task))
 StageRest from op (Input input) tree = InputRest from input tree
+StageRest from op (Depart asked) tree = tree ≡ departs from asked
 StageRest from op (Want asked) tree = tree ≡ asks_for from asked
+StageRest from op (Output output) tree = tree ≡ output_rest from op output
 StageRest from op (Leave decided) tree = LeavesAs tree (result_of from op decided)
 StageRest from op (End decided) tree = EndsAs tree (result_of from op decided)
 
@@ -52,13 +69,20 @@ StageIs pages number (Take taken) = taken.count < 8
 StageIs pages number (Judge case) = ⊥
 StageIs pages number (Touch gate task) = TaskIs pages number task
 StageIs pages number (Input input) = InputIs pages input
-StageIs pages number (Want asked) = Unit {0}
+StageIs pages number (Depart asked) = AskedIs pages asked
+StageIs pages number (Want asked) = AskedIs pages asked
+StageIs pages number (Output output) = OutputIs pages number output
 StageIs pages number (Leave decided) = Unit {0}
 StageIs pages number (End decided) = Unit {0}
 
+-- an input whose words are all read
+abbrev pub CaseIs : ℕ → Case → Type 0
+CaseIs pages (Read input) = InputRead pages input
+CaseIs pages _ = Unit {0}
+
 -- such a stage, or one that the state decides
 abbrev pub StageMay : ℕ → ℕ → Stage → Type 0
-StageMay pages number (Judge case) = Unit {0}
+StageMay pages number (Judge case) = CaseIs pages case
 StageMay pages number stage = StageIs pages number stage
 
 -- the phases in which a processor can be at a stage
@@ -68,7 +92,9 @@ StageAt (Take taken) phase = phase ≡ Idle
 StageAt (Judge case) phase = CaseAt case phase
 StageAt (Touch gate task) phase = GateAt gate phase
 StageAt (Input input) phase = SpotAt input.spot phase
+StageAt (Depart asked) phase = IsIn phase
 StageAt (Want asked) phase = phase ≡ Idle
+StageAt (Output output) phase = DoorAt output.door phase
 StageAt (Leave decided) phase = IsIn phase
 StageAt (End decided) phase = phase ≡ Idle
 
@@ -90,10 +116,11 @@ is_going (Want asked) = false
 is_going (End decided) = false
 is_going _ = true
 
--- a poll takes its words, or a hypercall asks the partition at once
+-- a poll takes its words, or a hypercall asks the partition at once or writes its output
 abbrev pub IsTaking : Stage → Type 0
 IsTaking (Take taken) = Unit {0}
 IsTaking (Want asked) = Unit {0}
+IsTaking (Output output) = Unit {0}
 IsTaking _ = ⊥
 
 -- a port that may be lent to a stage from which a step is made
@@ -103,7 +130,9 @@ StageServes (Take taken) seat = (seat.phase ≡ Idle) × (taken.count < 8) × (s
 StageServes (Judge case) seat = ⊥
 StageServes (Touch gate task) seat = TaskServes gate task seat
 StageServes (Input input) seat = InputServes input seat
+StageServes (Depart asked) seat = IsIn seat.phase × (seat.vp < seat.limits.vps)
 StageServes (Want asked) seat = ⊥
+StageServes (Output output) seat = OutputServes output seat
 StageServes (Leave decided) seat = IsIn seat.phase × (seat.vp < seat.limits.vps)
 StageServes (End decided) seat = ⊥
 
@@ -149,11 +178,27 @@ abbrev pub op_of : Option Under → Option Op
 op_of None = None
 op_of (Some u) = Some u.op
 
--- an attempt that is where these events of its own have led
-pub record IsUnderWay (from : Origin) (u : Under) (seen : List Event) (part first : ℕ) : Type 0 where
+-- nothing more is asked of the partition, and no spin is in vain
+abbrev pub IsLate : Tree Outcome → Type 0
+IsLate (Ends o) = (grant : Grant) → o.what ≢ Again grant
+IsLate (Asks s k) = (x : ℕ) → IsLate (k x)
+IsLate (Wants q k) = ⊥
+
+-- what is left of the attempt of this operation after these events, those of its own from `first` on, and the reply that it has had
+abbrev pub led_to : Origin → Op → Option Heard → List Event → ℕ → Tree Outcome
+led_to from op heard seen first = followed (attempt from op) heard (answers_of seen first)
+
+-- the reply came after events that were its own, and it was the last that the attempt has asked for
+pub record IsHeard (tree : Tree Outcome) (own : ℕ) (heard : Heard) : Type 0 where
+  pub after : heard.after ≤ own
+  pub late : IsLate tree
+
+-- an attempt that is where these events of its own, and the reply that it has had, have led
+pub record IsUnderWay (from : Origin) (u : Under) (heard : Option Heard) (seen : List Event) (part first : ℕ) : Type 0 where
   pub is : StageIs from.pages from.number u.stage
-  pub rest : StageRest from u.op u.stage (follow (attempt from u.op) (map learned (drop first seen)))
-  pub counts : Counts most_steps (length (drop first seen)) (follow (attempt from u.op) (map learned (drop first seen)))
+  pub rest : StageRest from u.op u.stage (led_to from u.op heard seen first)
+  pub counts : Counts most_steps (length (drop first seen)) (led_to from u.op heard seen first)
+  pub hears : IfSome heard (IsHeard (led_to from u.op heard seen first) (length (drop first seen)))
   pub phase : StageAt u.stage (phase_at seen first)
   pub tidy : IsTidy part first u.stage (phase_at seen first)
 
@@ -171,7 +216,7 @@ abbrev pub IsWanting : Option Under → Type 0
 IsWanting None = ⊥
 IsWanting (Some u) = IsWant u.stage
 
--- what is under way is where the events so far have led
-abbrev pub Means : Origin → Option Under → List Event → ℕ → ℕ → Type 0
-Means from None seen part first = (first ≡ length seen) × (part ≡ first)
-Means from (Some u) seen part first = IsUnderWay from u seen part first
+-- what is under way is where the events so far, and the reply, have led
+abbrev pub Means : Origin → Option Under → Option Heard → List Event → ℕ → ℕ → Type 0
+Means from None heard seen part first = (first ≡ length seen) × (part ≡ first) × (heard ≡ None)
+Means from (Some u) heard seen part first = IsUnderWay from u heard seen part first

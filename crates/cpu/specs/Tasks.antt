@@ -1,9 +1,9 @@
 -- What is left of an attempt where it takes words, touches memory words, or is still to be decided.
-use Rattle.std.specs.Prelude.{◌≡◌, ℕ, ◌<◌, ◌≤◌, nat_lt, if◌then◌else◌, Option, Some, None, IfSome, List, ◌++◌, take, drop}
+use Rattle.std.specs.Prelude.{◌≡◌, ℕ, ◌+◌, ◌<◌, ◌≤◌, nat_lt, if◌then◌else◌, Option, Some, None, IfSome, List, ◌++◌, take, drop}
 use Rattle.vsm_core.specs.declared.event.Phase.{Phase}
 use Rattle.vsm_core.specs.declared.event.Phase.TheVariants as phases
 use Rattle.vsm_core.specs.declared.operation.Op.{Op}
-use Rattle.vsm_core.specs.Attempt.{in_access, left_with, told_on, posting, refused, polled, sends}
+use Rattle.vsm_core.specs.Attempt.{by_input, in_access, left_with, told_on, posting, refused, polled, sends}
 use Rattle.vsm_core.specs.Controllers.{writes, rings, message_page, vector_words}
 use Rattle.vsm_core.specs.Fills.{Cached}
 use Rattle.vsm_core.specs.Outcomes.{Origin, Outcome, note_of}
@@ -14,22 +14,25 @@ use Rattle.vsm_core.specs.Tree.{Tree, Ends, Asks, WordStep, Checking, Reading, L
 use Rattle.vtl_switch.specs.Answers.{number_of}
 use Rattle.cpu.specs.declared.decided.Decided.TheVariants.{Returned}
 use Rattle.cpu.specs.declared.task.Case.{Case}
-use Rattle.cpu.specs.declared.task.Case.TheVariants.{Refused, Found, Polled}
+use Rattle.cpu.specs.declared.task.Case.TheVariants.{Refused, Found, Polled, Read}
 use Rattle.cpu.specs.declared.task.Gate.{Gate}
 use Rattle.cpu.specs.declared.task.Gate.TheVariants.{Outside, Entered, Inside}
 use Rattle.cpu.specs.declared.task.Matter.{Matter}
-use Rattle.cpu.specs.declared.task.Matter.TheVariants.{Denial, Ending}
+use Rattle.cpu.specs.declared.task.Matter.TheVariants.{Denial, Hit, Ending}
 use Rattle.cpu.specs.declared.task.Plan.{Plan}
 use Rattle.cpu.specs.declared.task.Taken.{Taken}
 use Rattle.cpu.specs.declared.task.Task.{Task}
 use Rattle.cpu.specs.declared.task.Task.TheVariants.{Look, Make, Rax, Rcx}
+use Rattle.cpu.specs.declared.decided.Intercept.{Intercept}
 use Rattle.cpu.specs.declared.decided.Refusal.{Refusal}
-use Rattle.cpu.specs.Results.{refusal_of, result_of, told_or_held, with_does}
+use Rattle.hyper_abi.specs.Told.{row_for}
+use Rattle.cpu.specs.Inputs.{header_found, slice_found}
+use Rattle.cpu.specs.Results.{hit_note, hit_or_held, refusal_of, result_of, told_or_held, with_does}
 
 -- the steps that a plan has left
 abbrev pub plan_steps : Plan → List WordStep
 plan_steps plan =
-    (writes plan.page.0 plan.next (drop plan.next (take plan.count plan.words)) ++ rings plan.vp.0 plan.vector) ++ told_on (number_of plan.told) plan.reason
+    (writes plan.page.0 (plan.at + plan.next) (drop plan.next (take plan.count plan.words)) ++ rings plan.vp.0 plan.vector) ++ told_on (number_of plan.told) plan.reason
 
 -- the access is left, and the attempt has come to this
 abbrev pub left_as : List Cached → Outcome → Tree Outcome
@@ -48,9 +51,16 @@ telling from does r slot =
     asks_all (posting from (message_page from.pages from.state) (note_of from r.gva (refusal_of r)) slot ++ told_on (assist_page from.pages from.state) by_interrupt)
     (left_as does (told_or_held (may_enter from.state) from r slot))
 
+-- level 1 is told of a register that it intercepts and entered, where the message slot has this first word
+abbrev pub hit_telling : Origin → List Cached → Intercept → Option ℕ → Tree Outcome
+hit_telling from does h slot =
+    asks_all (posting from (message_page from.pages from.state) (hit_note from h) slot ++ told_on (assist_page from.pages from.state) by_interrupt)
+    (left_as does (hit_or_held (may_enter from.state) from h slot))
+
 -- the first word of the message slot is read
 abbrev pub found_rest : Origin → List Cached → Matter → ℕ → Tree Outcome
 found_rest from does (Denial r) word = telling from does r (Some word)
+found_rest from does (Hit h) word = hit_telling from does h (Some word)
 found_rest from does Ending word = sends from word
 
 -- what is left once the generation is checked
@@ -75,11 +85,13 @@ abbrev pub case_rest : Origin → List Cached → Case → Tree Outcome
 case_rest from does (Refused r) = refused from r.gva (refusal_of r) does
 case_rest from does (Found matter word) = found_rest from does matter word
 case_rest from does (Polled found) = polled from found
+case_rest from does (Read input) = by_input from (row_for input.call).code (header_found input) (slice_found input)
 
 -- the steps of a plan are ones that this processor may make, on so many pages
 pub record PlanIs (pages number : ℕ) (plan : Plan) : Type 0 where
   pub vp : plan.vp.0 ≡ number
-  pub count : plan.count ≤ 12
+  pub count : plan.count ≤ 16
+  pub end : plan.at + plan.count ≤ 512
   pub page : plan.next < plan.count → plan.page.0 < pages
   pub told : IfSome plan.told (λ page. page.0 < pages)
 
@@ -100,6 +112,7 @@ abbrev pub CaseAt : Case → Phase → Type 0
 CaseAt (Refused r) phase = IsIn phase
 CaseAt (Found matter word) phase = IsIn phase
 CaseAt (Polled found) phase = phase ≡ phases.Idle
+CaseAt (Read input) phase = IsIn phase
 
 -- a port that may be lent
 pub record TaskServes (gate : Gate) (task : Task) (seat : Seat) : Type 0 where

@@ -49,10 +49,10 @@ TurnsBy (Asks s k) op old before new after turn =
     (x : ℕ) × Makes before s x after × (new ≡ settled (k x) (saw op old (made s x))) × (turn ≡ answer_at (k x) new.ended)
 TurnsBy (Wants q k) op old before new after turn = (after ≡ before) × (new ≡ asking op old) × (turn ≡ turns.Wants q)
 
--- a reply to the request of an attempt where this is left of it: the attempt comes to its end by the reply, with no step
+-- a reply to the request of an attempt where this is left of it: the attempt goes on by the reply, or comes to its end by
+-- it, with no step
 abbrev pub AcceptsBy : Tree Outcome → Reply → Vp → Vp → CpuTurn → Type 0
-AcceptsBy (Wants q k) reply old new turn =
-    (o : Outcome) × (k reply ≡ Ends o) × (new ≡ settled (Ends o) (answered old)) × (turn ≡ after_mark o.what new.ended)
+AcceptsBy (Wants q k) reply old new turn = (new ≡ settled (k reply) (answered reply old)) × (turn ≡ answer_at (k reply) new.ended)
 AcceptsBy _ reply old new turn = ⊥
 
 -- a processor waits for a reply exactly where its turn handed out a request

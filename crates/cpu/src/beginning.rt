@@ -1,5 +1,5 @@
 // The first stage of an attempt.
-ghost use Rattle.std.specs.Prelude.{◌≡◌, ◌≢◌, ◌<◌, ℕ, List, length, None, Some, IfSome, if◌then◌else◌, slice_get};
+ghost use Rattle.std.specs.Prelude.{◌≡◌, ◌≢◌, ◌<◌, ℕ, List, length, Option, None, Some, IfSome, if◌then◌else◌, slice_get};
 ghost use Rattle.vsm_core.specs.Attempt.{attempt, by_access, call_tree, return_tree, eom_tree, goal_of as goal_of_lem};
 ghost use Rattle.vsm_core.specs.Outcomes.{Origin};
 ghost use Rattle.vsm_core.specs.State.{rip_of};
@@ -17,14 +17,15 @@ ghost use Rattle.vsm_core.specs.Controllers.{Controllers as Contents};
 use crate::controllers::Controllers;
 use crate::decided::Decided;
 use crate::hypercalls::hypercalling;
+use crate::intercepts::{getting, setting};
 use crate::plans::{message_page, nothing};
 use crate::registers::operand;
 use crate::stage::{Stage, Under};
 use crate::task::{Gate, Matter, Taken, Task};
 use access_path::{Aim, Path};
 use register_file::Bank;
-use vsm_base::{Access, Gva, Name, Page, VpIndex, Vtl};
-use vsm_core::{Event, Op};
+use vsm_base::{Access, Gva, Limits, Name, Page, VpIndex, Vtl};
+use vsm_core::{Event, Heard, Op};
 use vtl_state::{Levels, privilege_of, word_of};
 use vtl_switch::{Back, call_kind, return_kind};
 
@@ -87,14 +88,14 @@ fn told_page(pages: u32, bank: &Bank, levels: &Levels) -> Option<Page>
     }
 }
 
-fn calling(pages: u32, vp: VpIndex, bank: &Bank, levels: &Levels) -> Stage
-    ensures rest { (held : Contents) → StageRest (origin_with pages vp.0 bank.now levels.now held) Op.VtlCall result (call_tree (origin_with pages vp.0 bank.now levels.now held)) }
-    ensures is { StageIs pages vp.0 result }
+fn calling(limits: Limits, vp: VpIndex, bank: &Bank, levels: &Levels) -> Stage
+    ensures rest { (held : Contents) → StageRest (origin_with limits vp.0 bank.now levels.now held) Op.VtlCall result (call_tree (origin_with limits vp.0 bank.now levels.now held)) }
+    ensures is { StageIs limits.pages vp.0 result }
     ensures idle { StageAt result Idle }
     ensures no_poll { ¬ IsTaking result }
 {
     let decided = Decided::Called;
-    match told_page(pages, bank, levels) {
+    match told_page(limits.pages, bank, levels) {
         Some(page) => Stage::Touch {
             gate: Gate::Outside,
             task: Task::Make {
@@ -119,13 +120,13 @@ fn given_page(pages: u32, bank: &Bank, levels: &Levels) -> Option<Page>
     }
 }
 
-fn returning(pages: u32, bank: &Bank, levels: &Levels) -> Stage
-    ensures rest { (number : ℕ) (held : Contents) → StageRest (origin_with pages number bank.now levels.now held) Op.VtlReturn result (return_tree (origin_with pages number bank.now levels.now held)) }
-    ensures is { (number : ℕ) → StageIs pages number result }
+fn returning(limits: Limits, bank: &Bank, levels: &Levels) -> Stage
+    ensures rest { (number : ℕ) (held : Contents) → StageRest (origin_with limits number bank.now levels.now held) Op.VtlReturn result (return_tree (origin_with limits number bank.now levels.now held)) }
+    ensures is { (number : ℕ) → StageIs limits.pages number result }
     ensures idle { StageAt result Idle }
     ensures no_poll { ¬ IsTaking result }
 {
-    match given_page(pages, bank, levels) {
+    match given_page(limits.pages, bank, levels) {
         Some(page) => Stage::Touch {
             gate: Gate::Outside,
             task: Task::Rax { page },
@@ -149,13 +150,13 @@ fn looked_page(pages: u32, bank: &Bank, levels: &Levels, controllers: &Controlle
     }
 }
 
-fn ending(pages: u32, bank: &Bank, levels: &Levels, controllers: &Controllers) -> Stage
-    ensures rest { (number : ℕ) → StageRest (origin_at pages number bank.now levels.now controllers.now) Op.Eom result (eom_tree (origin_at pages number bank.now levels.now controllers.now)) }
-    ensures is { (number : ℕ) → StageIs pages number result }
+fn ending(limits: Limits, bank: &Bank, levels: &Levels, controllers: &Controllers) -> Stage
+    ensures rest { (number : ℕ) → StageRest (origin_at limits number bank.now levels.now controllers.now) Op.Eom result (eom_tree (origin_at limits number bank.now levels.now controllers.now)) }
+    ensures is { (number : ℕ) → StageIs limits.pages number result }
     ensures idle { StageAt result Idle }
     ensures no_poll { ¬ IsTaking result }
 {
-    match looked_page(pages, bank, levels, controllers) {
+    match looked_page(limits.pages, bank, levels, controllers) {
         Some(page) => Stage::Touch {
             gate: Gate::Outside,
             task: Task::Look {
@@ -171,36 +172,62 @@ fn ending(pages: u32, bank: &Bank, levels: &Levels, controllers: &Controllers) -
 
 /// The first stage of an attempt.
 pub fn begin(
-    pages: u32,
+    limits: Limits,
     vp: VpIndex,
     bank: &Bank,
     levels: &Levels,
     controllers: &Controllers,
     op: Op,
 ) -> Stage
-    ensures rest { StageRest (origin_at pages vp.0 bank.now levels.now controllers.now) op result (attempt (origin_at pages vp.0 bank.now levels.now controllers.now) op) }
-    ensures is { StageIs pages vp.0 result }
+    ensures rest { StageRest (origin_at limits vp.0 bank.now levels.now controllers.now) op result (attempt (origin_at limits vp.0 bank.now levels.now controllers.now) op) }
+    ensures is { StageIs limits.pages vp.0 result }
     ensures idle { StageAt result Idle }
     ensures no_poll { op ≢ Op.Poll → op ≢ Op.Hypercall → ¬ IsTaking result }
 {
     match op {
-        Op::Load(_, gva) => reaching(aim_at(pages, bank, levels, Access::Read, true, gva, 0)),
+        Op::Set(name, value) => setting(limits, vp, bank, levels, name, value),
+        Op::Get(name) => getting(limits, vp, bank, levels, name),
+        Op::Load(_, gva) => reaching(aim_at(
+            limits.pages,
+            bank,
+            levels,
+            Access::Read,
+            true,
+            gva,
+            0,
+        )),
         Op::Store(gva, what) => {
             let value = operand(bank, levels, what);
-            reaching(aim_at(pages, bank, levels, Access::Write, true, gva, value))
+            reaching(aim_at(limits.pages, bank, levels, Access::Write, true, gva, value))
         }
-        Op::Exec(gva) => reaching(aim_at(pages, bank, levels, Access::Execute, false, gva, 0)),
-        Op::Spin(gva, _) => reaching(aim_at(pages, bank, levels, Access::Read, true, gva, 0)),
-        Op::Hypercall => hypercalling(pages, bank, levels),
-        Op::VtlCall => calling(pages, vp, bank, levels),
-        Op::VtlReturn => returning(pages, bank, levels),
+        Op::Exec(gva) => reaching(aim_at(
+            limits.pages,
+            bank,
+            levels,
+            Access::Execute,
+            false,
+            gva,
+            0,
+        )),
+        Op::Spin(gva, _) => reaching(aim_at(
+            limits.pages,
+            bank,
+            levels,
+            Access::Read,
+            true,
+            gva,
+            0,
+        )),
+        Op::Hypercall => hypercalling(limits, bank, levels),
+        Op::VtlCall => calling(limits, vp, bank, levels),
+        Op::VtlReturn => returning(limits, bank, levels),
         Op::Poll => Stage::Take {
             taken: Taken {
                 found: [0; 8],
                 count: 0,
             },
         },
-        Op::Eom => ending(pages, bank, levels, controllers),
+        Op::Eom => ending(limits, bank, levels, controllers),
         _ => Stage::End {
             decided: Decided::Local,
         },
@@ -209,7 +236,7 @@ pub fn begin(
 
 /// What is under way when the next step is made: a new attempt, where there was none.
 pub fn begun(
-    pages: u32,
+    limits: Limits,
     vp: VpIndex,
     bank: &Bank,
     levels: &Levels,
@@ -219,7 +246,7 @@ pub fn begun(
 ) -> Under
     requires rip { rip_of (state_of bank.now levels.now) < length ops.now }
     requires same { IfSome (op_of under) (λ op. slice_get ops.now (rip_of (state_of bank.now levels.now)) ≡ Some op) }
-    ensures means { (seen : List Event) (part first : ℕ) → Means (origin_at pages vp.0 bank.now levels.now controllers.now) under seen part first → IsUnderWay (origin_at pages vp.0 bank.now levels.now controllers.now) result seen part first }
+    ensures means { (heard : Option Heard) (seen : List Event) (part first : ℕ) → Means (origin_at limits vp.0 bank.now levels.now controllers.now) under heard seen part first → IsUnderWay (origin_at limits vp.0 bank.now levels.now controllers.now) result heard seen part first }
     ensures op { slice_get ops.now (rip_of (state_of bank.now levels.now)) ≡ Some result.op }
     ensures kept { IfSome under (λ u. result ≡ u) }
 {
@@ -228,7 +255,7 @@ pub fn begun(
         None => {
             let rip = word_of(bank, levels, Name::Rip);
             let op = ops[rip as usize];
-            let stage = begin(pages, vp, bank, levels, controllers, op);
+            let stage = begin(limits, vp, bank, levels, controllers, op);
             Under { op, stage }
         }
     }

@@ -3,23 +3,23 @@ ghost use Rattle.std.specs.Prelude.{◌≡◌, ◌^◌, ◌/◌, ◌<◌, ◌∷
 ghost use Rattle.vsm_core.specs.Attempt.{hypercall_tree};
 ghost use Rattle.vsm_core.specs.Contexts.{with_context};
 ghost use Rattle.vsm_core.specs.Controllers.{Controllers as Contents};
-ghost use Rattle.vsm_core.specs.Hypercalls.{call_of, own_context as own_context_lem, with_result};
+ghost use Rattle.vsm_core.specs.Hypercalls.{call_of, has_output, own_context as own_context_lem, with_result};
 ghost use Rattle.vsm_core.specs.Outcomes.{Origin};
-ghost use Rattle.vsm_core.specs.State.{word_of as word_of_lem};
 ghost use Rattle.vsm_core.specs.declared.event.Phase.TheVariants.{Idle};
 ghost use Rattle.vsm_core.specs.declared.operation.Op.TheVariants.{Hypercall};
 ghost use Rattle.vtl_state.specs.States.{state_of};
 ghost use Rattle.hyper_abi.specs.Told.{row_for};
 ghost use Rattle.cpu.specs.Held.{origin_with};
-ghost use Rattle.cpu.specs.Inputs.{part_call, request_for, opening_input};
+ghost use Rattle.cpu.specs.Inputs.{part_call, request_for};
+ghost use Rattle.cpu.specs.Admitted.{opening_input, opening_output};
 ghost use Rattle.cpu.specs.Stages.{StageRest, StageIs, StageAt, WantsCall};
 
 use crate::decided::Decided;
-use crate::input::{Asked, Input, Spot};
+use crate::input::{Asked, Input, Site, Spot};
 use crate::stage::Stage;
 use hyper_abi::{Admission, Call, ResultValue, admit};
 use register_file::{Bank, Context};
-use vsm_base::{HvStatus, Name, Page, VpIndex, Vtl};
+use vsm_base::{HvStatus, Limits, Name, VpIndex, Vtl};
 use vsm_core::{GuestFault, PartCall, Reply, Request, What};
 use vtl_state::{Levels, go_on, privilege_of, put_legal, word_of};
 
@@ -31,40 +31,62 @@ fn fast_asked(call: Call, first: u64, second: u64) -> Asked
     match call {
         Call::EnablePartitionVtl => Asked::EnablePartition([first, second]),
         Call::EnableVpVtl => unreachable!(),
+        Call::GetVpRegisters => unreachable!(),
+        Call::SetVpRegisters => unreachable!(),
     }
 }
 
-/// The first stage of a call that isn't refused at once.
-fn admitted(bank: &Bank, levels: &Levels, address: u64, admission: Admission) -> Stage
-    requires page { admission.fast ≡ false → address / 4096 < 2 ^ 32 }
-    requires may_be_fast { admission.fast ≡ true → (row_for admission.call).may_be_fast ≡ true }
-    ensures fast { admission.fast ≡ true → WantsCall result (row_for admission.call).code (address ∷ word_of_lem (state_of bank.now levels.now) Name.R8 ∷ []) }
-    ensures memory { admission.fast ≡ false → result ≡ Stage.Input (opening_input admission.call levels.now.active address) }
+/// The site of a call's output, where it has one.
+fn output_of(call: Call, address: u64) -> Option<Site>
+    requires { has_output (row_for call) ≡ true → address / 4096 < 2 ^ 32 }
+    ensures { result ≡ opening_output call address }
 {
-    let Admission { call, fast } = admission;
+    match call {
+        Call::EnablePartitionVtl => None,
+        Call::EnableVpVtl => None,
+        Call::GetVpRegisters => Some(Site::at(address)),
+        Call::SetVpRegisters => None,
+    }
+}
+
+/// The first stage of a call that isn't refused at once, whose input and output have these addresses.
+fn admitted(levels: &Levels, address: u64, output: u64, admission: Admission) -> Stage
+    requires page { admission.fast ≡ false → address / 4096 < 2 ^ 32 }
+    requires output { admission.fast ≡ false → has_output (row_for admission.call) ≡ true → output / 4096 < 2 ^ 32 }
+    requires may_be_fast { admission.fast ≡ true → (row_for admission.call).may_be_fast ≡ true }
+    ensures fast { admission.fast ≡ true → WantsCall result (row_for admission.call).code (address ∷ output ∷ []) }
+    ensures memory { admission.fast ≡ false → result ≡ Stage.Input (opening_input admission levels.now.active address output) }
+{
+    let Admission {
+        call,
+        fast,
+        count,
+        start,
+    } = admission;
     if fast {
-        let second = word_of(bank, levels, Name::R8);
         return Stage::Want {
-            asked: fast_asked(call, address, second),
+            asked: fast_asked(call, address, output),
         };
     }
     Stage::Input {
         input: Input {
             call,
+            count,
+            start,
             level: levels.active(),
-            address,
-            page: Page((address / 4096) as u32),
+            site: Site::at(address),
+            output: output_of(call, output),
             spot: Spot::Outside,
-            words: [0; 30],
+            words: [0; 34],
             done: 0,
         },
     }
 }
 
 /// The first stage of a hypercall: it is made at privilege level 0, and what refuses it at once refuses it here.
-pub fn hypercalling(pages: u32, bank: &Bank, levels: &Levels) -> Stage
-    ensures rest { (number : ℕ) (held : Contents) → StageRest (origin_with pages number bank.now levels.now held) Hypercall result (hypercall_tree (origin_with pages number bank.now levels.now held)) }
-    ensures is { (number : ℕ) → StageIs pages number result }
+pub fn hypercalling(limits: Limits, bank: &Bank, levels: &Levels) -> Stage
+    ensures rest { (number : ℕ) (held : Contents) → StageRest (origin_with limits number bank.now levels.now held) Hypercall result (hypercall_tree (origin_with limits number bank.now levels.now held)) }
+    ensures is { (number : ℕ) → StageIs limits.pages number result }
     ensures idle { StageAt result Idle }
 {
     if privilege_of(bank, levels) != 0 {
@@ -74,8 +96,9 @@ pub fn hypercalling(pages: u32, bank: &Bank, levels: &Levels) -> Stage
     }
     let value = word_of(bank, levels, Name::Rcx);
     let address = word_of(bank, levels, Name::Rdx);
-    match admit(pages, value, address) {
-        Ok(admission) => admitted(bank, levels, address, admission),
+    let output = word_of(bank, levels, Name::R8);
+    match admit(limits.pages, value, address, output) {
+        Ok(admission) => admitted(levels, address, output, admission),
         Err(status) => Stage::End {
             decided: Decided::Replied(ResultValue { status, done: 0 }.bits(), None),
         },
@@ -89,6 +112,7 @@ pub fn request(vp: VpIndex, levels: &Levels, asked: &Asked) -> Request
     let call = match asked {
         Asked::EnablePartition(words) => PartCall::EnablePartition(*words),
         Asked::EnableVp(words) => PartCall::EnableVp(*words),
+        Asked::Look { .. } => PartCall::ReadStatus,
     };
     Request {
         by: vp,

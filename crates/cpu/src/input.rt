@@ -1,6 +1,29 @@
 // A hypercall's input in memory, and what a hypercall asks of the partition.
+ghost use Rattle.std.specs.Prelude.{◌≡◌, ◌^◌, ◌/◌, ◌<◌};
+ghost use Rattle.cpu.specs.Sites.{site_at};
+
 use hyper_abi::Call;
 use vsm_base::{Page, Vtl};
+
+/// An address of memory, and its page.
+#[derive(Clone, Copy, Debug)]
+pub struct Site {
+    pub address: u64,
+    pub page: Page,
+}
+
+impl Site {
+    /// The site of an address.
+    pub fn at(address: u64) -> Site
+        requires { address / 4096 < 2 ^ 32 }
+        ensures { result ≡ site_at address }
+    {
+        Site {
+            address,
+            page: Page((address / 4096) as u32),
+        }
+    }
+}
 
 /// How far the access to an input has come.
 #[derive(Clone, Copy, Debug)]
@@ -11,26 +34,35 @@ pub enum Spot {
     Entered,
     /// The mask of the input's page comes next; the generation was this.
     Masking { generation: u64 },
-    /// The words come next, or the leave.
+    /// The mask of the output's page comes next; the generation was this.
+    OutputMasking { generation: u64, site: Site },
+    /// The words come next.
     Inside,
 }
 
-/// A call whose input stands in memory: the level of its caller, the address of the input with its page, and the words that
-/// were read so far.
+/// A call whose input stands in memory: how many elements it has and at which it begins, the level of its caller, where
+/// its input stands, and its output, if it has one, and the words that were read so far: those of the header, and then
+/// those of the slice of elements.
 #[derive(Clone, Copy, Debug)]
 pub struct Input {
     pub call: Call,
+    pub count: u16,
+    pub start: u16,
     pub level: Vtl,
-    pub address: u64,
-    pub page: Page,
+    pub site: Site,
+    pub output: Option<Site>,
     pub spot: Spot,
-    pub words: [u64; 30],
+    pub words: [u64; 34],
     pub done: u8,
 }
 
-/// What a call asks of the partition, with the words of its input.
+/// What a call asks of the partition.
 #[derive(Clone, Copy, Debug)]
 pub enum Asked {
+    /// HvCallEnablePartitionVtl, with the words of its input.
     EnablePartition([u64; 2]),
+    /// HvCallEnableVpVtl, with the words of its input.
     EnableVp([u64; 30]),
+    /// The register of the partition, whose value then goes to this place in the page of the output.
+    Look { output: Site, at: u16 },
 }

@@ -10,7 +10,7 @@ ghost use Rattle.cpu.specs.Results.{polled_outcome};
 
 use crate::controllers::Controllers;
 use register_file::Bank;
-use vsm_base::{Name, Vtl};
+use vsm_base::{Limits, Name, Vtl};
 use vsm_core::What;
 use vtl_state::{Levels, go_on, put_legal, word_of};
 use vtl_switch::may_enter;
@@ -74,9 +74,9 @@ pub fn poll(
 
 /// The vector that is delivered next goes into service and into a register.
 pub fn ack(bank: &mut Bank, levels: &Levels, controllers: &mut Controllers, name: Name) -> What
-    ensures what { (pages number : ℕ) → result ≡ (ack_outcome (origin_at pages number bank.old levels.now controllers.old) name).what }
-    ensures state { (pages number : ℕ) → state_of bank.new levels.now ≡ (ack_outcome (origin_at pages number bank.old levels.now controllers.old) name).state }
-    ensures controllers { (pages number : ℕ) → held_of controllers.new ≡ (ack_outcome (origin_at pages number bank.old levels.now controllers.old) name).controllers }
+    ensures what { (limits : Limits) (number : ℕ) → result ≡ (ack_outcome (origin_at limits number bank.old levels.now controllers.old) name).what }
+    ensures state { (limits : Limits) (number : ℕ) → state_of bank.new levels.now ≡ (ack_outcome (origin_at limits number bank.old levels.now controllers.old) name).state }
+    ensures controllers { (limits : Limits) (number : ℕ) → held_of controllers.new ≡ (ack_outcome (origin_at limits number bank.old levels.now controllers.old) name).controllers }
     ensures synic { controllers.new.synic ≡ controllers.old.synic }
 {
     let cr8 = word_of(bank, levels, Name::Cr8);
@@ -92,9 +92,9 @@ pub fn ack(bank: &mut Bank, levels: &Levels, controllers: &mut Controllers, name
 
 /// The active level's highest vector in service is served.
 pub fn end_interrupt(bank: &mut Bank, levels: &Levels, controllers: &mut Controllers) -> What
-    ensures what { (pages number : ℕ) → result ≡ (eoi_outcome (origin_at pages number bank.old levels.now controllers.old)).what }
-    ensures state { (pages number : ℕ) → state_of bank.new levels.now ≡ (eoi_outcome (origin_at pages number bank.old levels.now controllers.old)).state }
-    ensures controllers { (pages number : ℕ) → held_of controllers.new ≡ (eoi_outcome (origin_at pages number bank.old levels.now controllers.old)).controllers }
+    ensures what { (limits : Limits) (number : ℕ) → result ≡ (eoi_outcome (origin_at limits number bank.old levels.now controllers.old)).what }
+    ensures state { (limits : Limits) (number : ℕ) → state_of bank.new levels.now ≡ (eoi_outcome (origin_at limits number bank.old levels.now controllers.old)).state }
+    ensures controllers { (limits : Limits) (number : ℕ) → held_of controllers.new ≡ (eoi_outcome (origin_at limits number bank.old levels.now controllers.old)).controllers }
     ensures synic { controllers.new.synic ≡ controllers.old.synic }
 {
     match levels.active() {

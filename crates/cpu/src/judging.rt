@@ -11,12 +11,13 @@ ghost use Rattle.cpu.specs.Stages.{StageRest, StageIs, StageMay, StageAt, IsTidy
 
 use crate::controllers::Controllers;
 use crate::decided::{Decided, Refusal};
+use crate::given::given;
 use crate::interrupts::is_wanted;
-use crate::plans::{BY_INTERRUPT, message_page, note_of, nothing, posting, sending};
+use crate::plans::{BY_INTERRUPT, hit_note_of, message_page, note_of, nothing, posting, sending};
 use crate::stage::Stage;
 use crate::task::{Case, Gate, Matter, Plan, Task};
 use register_file::Bank;
-use vsm_base::VpIndex;
+use vsm_base::{Limits, VpIndex};
 use vsm_core::Op;
 use vtl_state::Levels;
 use vtl_switch::{assist_page, may_enter};
@@ -33,15 +34,15 @@ fn inside(plan: Plan, decided: Decided) -> Stage
 
 /// An access was denied.
 fn refused(
-    pages: u32,
+    limits: Limits,
     vp: VpIndex,
     bank: &Bank,
     levels: &Levels,
     controllers: &Controllers,
     refusal: Refusal,
 ) -> Stage
-    ensures rest { (op : Op) (tree : Tree Outcome) → StageRest (origin_at pages vp.0 bank.now levels.now controllers.now) op (Stage.Judge (Case.Refused refusal)) tree → StageRest (origin_at pages vp.0 bank.now levels.now controllers.now) op result tree }
-    ensures is { StageIs pages vp.0 result }
+    ensures rest { (op : Op) (tree : Tree Outcome) → StageRest (origin_at limits vp.0 bank.now levels.now controllers.now) op (Stage.Judge (Case.Refused refusal)) tree → StageRest (origin_at limits vp.0 bank.now levels.now controllers.now) op result tree }
+    ensures is { StageIs limits.pages vp.0 result }
     ensures at { (phase : Phase) → StageAt (Stage.Judge (Case.Refused refusal)) phase → StageAt result phase }
 {
     if !may_enter(bank, levels) {
@@ -49,7 +50,7 @@ fn refused(
             decided: Decided::Denied(refusal, None),
         };
     }
-    match message_page(pages, bank) {
+    match message_page(limits.pages, bank) {
         Some(page) => Stage::Touch {
             gate: Gate::Inside,
             task: Task::Look {
@@ -58,7 +59,7 @@ fn refused(
             },
         },
         None => {
-            let told = assist_page(bank, levels, pages);
+            let told = assist_page(bank, levels, limits.pages);
             let plan = nothing(vp, told, BY_INTERRUPT);
             inside(plan, Decided::Denied(refusal, None))
         }
@@ -67,7 +68,7 @@ fn refused(
 
 /// The first word of the message slot was read.
 fn found(
-    pages: u32,
+    limits: Limits,
     vp: VpIndex,
     bank: &Bank,
     levels: &Levels,
@@ -75,19 +76,25 @@ fn found(
     matter: Matter,
     word: u64,
 ) -> Stage
-    ensures rest { (op : Op) (tree : Tree Outcome) → StageRest (origin_at pages vp.0 bank.now levels.now controllers.now) op (Stage.Judge (Case.Found matter word)) tree → StageRest (origin_at pages vp.0 bank.now levels.now controllers.now) op result tree }
-    ensures is { StageIs pages vp.0 result }
+    ensures rest { (op : Op) (tree : Tree Outcome) → StageRest (origin_at limits vp.0 bank.now levels.now controllers.now) op (Stage.Judge (Case.Found matter word)) tree → StageRest (origin_at limits vp.0 bank.now levels.now controllers.now) op result tree }
+    ensures is { StageIs limits.pages vp.0 result }
     ensures at { (phase : Phase) → StageAt (Stage.Judge (Case.Found matter word)) phase → StageAt result phase }
 {
     match matter {
         Matter::Denial(refusal) => {
-            let told = assist_page(bank, levels, pages);
+            let told = assist_page(bank, levels, limits.pages);
             let note = note_of(vp, bank, levels, &refusal);
-            let plan = posting(pages, vp, bank, controllers, &note, word, told);
+            let plan = posting(limits, vp, bank, controllers, &note, word, told);
             inside(plan, Decided::Denied(refusal, Some(word)))
         }
+        Matter::Hit(hit) => {
+            let told = assist_page(bank, levels, limits.pages);
+            let note = hit_note_of(vp, bank, levels, &hit);
+            let plan = posting(limits, vp, bank, controllers, &note, word, told);
+            inside(plan, Decided::Hit(hit, Some(word)))
+        }
         Matter::Ending => {
-            let plan = sending(pages, vp, bank, controllers, word);
+            let plan = sending(limits, vp, bank, controllers, word);
             inside(plan, Decided::Eom(Some(word)))
         }
     }
@@ -95,22 +102,22 @@ fn found(
 
 /// A poll has taken all words.
 fn polled(
-    pages: u32,
+    limits: Limits,
     vp: VpIndex,
     bank: &Bank,
     levels: &Levels,
     controllers: &Controllers,
     found: [u64; 8],
 ) -> Stage
-    ensures rest { (op : Op) (tree : Tree Outcome) → StageRest (origin_at pages vp.0 bank.now levels.now controllers.now) op (Stage.Judge (Case.Polled found)) tree → StageRest (origin_at pages vp.0 bank.now levels.now controllers.now) op result tree }
-    ensures is { StageIs pages vp.0 result }
+    ensures rest { (op : Op) (tree : Tree Outcome) → StageRest (origin_at limits vp.0 bank.now levels.now controllers.now) op (Stage.Judge (Case.Polled found)) tree → StageRest (origin_at limits vp.0 bank.now levels.now controllers.now) op result tree }
+    ensures is { StageIs limits.pages vp.0 result }
     ensures at { (phase : Phase) → StageAt (Stage.Judge (Case.Polled found)) phase → StageAt result phase }
 {
     let decided = Decided::Polled(found);
     if !is_wanted(bank, levels, controllers, &found) {
         return Stage::End { decided };
     }
-    match assist_page(bank, levels, pages) {
+    match assist_page(bank, levels, limits.pages) {
         Some(page) => {
             let plan = nothing(vp, Some(page), BY_INTERRUPT);
             Stage::Touch {
@@ -124,16 +131,16 @@ fn polled(
 
 /// The stage from which an attempt goes on.
 pub fn judged(
-    pages: u32,
+    limits: Limits,
     vp: VpIndex,
     bank: &Bank,
     levels: &Levels,
     controllers: &Controllers,
     stage: Stage,
 ) -> Stage
-    requires { StageMay pages vp.0 stage }
-    ensures rest { (op : Op) (tree : Tree Outcome) → StageRest (origin_at pages vp.0 bank.now levels.now controllers.now) op stage tree → StageRest (origin_at pages vp.0 bank.now levels.now controllers.now) op result tree }
-    ensures is { StageIs pages vp.0 result }
+    requires { StageMay limits.pages vp.0 stage }
+    ensures rest { (op : Op) (tree : Tree Outcome) → StageRest (origin_at limits vp.0 bank.now levels.now controllers.now) op stage tree → StageRest (origin_at limits vp.0 bank.now levels.now controllers.now) op result tree }
+    ensures is { StageIs limits.pages vp.0 result }
     ensures at { (phase : Phase) → StageAt stage phase → StageAt result phase }
     ensures tidy { (part first : ℕ) (phase : Phase) → IsTidy part first stage phase → IsTidy part first result phase }
 {
@@ -141,8 +148,9 @@ pub fn judged(
         return stage;
     };
     match case {
-        Case::Refused(refusal) => refused(pages, vp, bank, levels, controllers, refusal),
-        Case::Found(matter, word) => found(pages, vp, bank, levels, controllers, matter, word),
-        Case::Polled(words) => polled(pages, vp, bank, levels, controllers, words),
+        Case::Refused(refusal) => refused(limits, vp, bank, levels, controllers, refusal),
+        Case::Found(matter, word) => found(limits, vp, bank, levels, controllers, matter, word),
+        Case::Polled(words) => polled(limits, vp, bank, levels, controllers, words),
+        Case::Read(input) => given(limits, vp, bank, levels, controllers, input),
     }
 }

@@ -1,18 +1,18 @@
-// What denied accesses and ends of messages do with the notes that wait.
+// What denied accesses, intercepted registers and ends of messages do with the notes that wait.
 ghost use Rattle.std.specs.Prelude.{◌≡◌, ◌+◌, ◌<◌, ◌≤◌, ℕ};
 ghost use Rattle.vsm_core.specs.Outcomes.{eom_outcome};
 ghost use Rattle.vsm_core.specs.Switch.{may_enter};
 ghost use Rattle.synic.specs.Ends.{eom_word};
 ghost use Rattle.vtl_state.specs.States.{state_of};
 ghost use Rattle.cpu.specs.Held.{held_of, origin_at};
-ghost use Rattle.cpu.specs.Results.{told_or_held};
+ghost use Rattle.cpu.specs.Results.{hit_or_held, told_or_held};
 
 use crate::controllers::Controllers;
-use crate::decided::Refusal;
-use crate::plans::note_of;
+use crate::decided::{Intercept, Refusal};
+use crate::plans::{hit_note_of, note_of};
 use register_file::Bank;
 use synic::EomStep;
-use vsm_base::{VpIndex, Vtl};
+use vsm_base::{Limits, VpIndex, Vtl};
 use vsm_core::{Denial, EomWord, Posted, What};
 use vtl_state::{Levels, go_on};
 use vtl_switch::interrupt_entry;
@@ -32,7 +32,7 @@ fn denial(refusal: Refusal, posted: Posted) -> Denial
 
 /// An access was denied: level 1 is told and entered, where it may be. Else the processor is held.
 pub fn deny(
-    pages: u32,
+    limits: Limits,
     vp: VpIndex,
     bank: &mut Bank,
     levels: &mut Levels,
@@ -41,18 +41,41 @@ pub fn deny(
     slot: Option<u64>,
 ) -> What
     requires { 0 < controllers.old.synic.room }
-    ensures what { result ≡ (told_or_held (may_enter (state_of bank.old levels.old)) (origin_at pages vp.0 bank.old levels.old controllers.old) refusal slot).what }
-    ensures state { state_of bank.new levels.new ≡ (told_or_held (may_enter (state_of bank.old levels.old)) (origin_at pages vp.0 bank.old levels.old controllers.old) refusal slot).state }
-    ensures controllers { held_of controllers.new ≡ (told_or_held (may_enter (state_of bank.old levels.old)) (origin_at pages vp.0 bank.old levels.old controllers.old) refusal slot).controllers }
+    ensures what { result ≡ (told_or_held (may_enter (state_of bank.old levels.old)) (origin_at limits vp.0 bank.old levels.old controllers.old) refusal slot).what }
+    ensures state { state_of bank.new levels.new ≡ (told_or_held (may_enter (state_of bank.old levels.old)) (origin_at limits vp.0 bank.old levels.old controllers.old) refusal slot).state }
+    ensures controllers { held_of controllers.new ≡ (told_or_held (may_enter (state_of bank.old levels.old)) (origin_at limits vp.0 bank.old levels.old controllers.old) refusal slot).controllers }
     ensures room { controllers.old.synic.room ≤ controllers.new.synic.room + 1 }
 {
     let note = note_of(vp, bank, levels, &refusal);
-    match interrupt_entry(bank, levels, pages) {
+    match interrupt_entry(bank, levels, limits.pages) {
         Ok(_) => {
             let posted = controllers.synic.post(slot, note);
             What::Denied(denial(refusal, posted))
         }
         Err(_) => What::Denied(denial(refusal, Posted::Held)),
+    }
+}
+
+/// Level 1 intercepts a register: it is told and entered, where it may be. Else the processor is held.
+pub fn intercept(
+    limits: Limits,
+    vp: VpIndex,
+    bank: &mut Bank,
+    levels: &mut Levels,
+    controllers: &mut Controllers,
+    hit: Intercept,
+    slot: Option<u64>,
+) -> What
+    requires { 0 < controllers.old.synic.room }
+    ensures what { result ≡ (hit_or_held (may_enter (state_of bank.old levels.old)) (origin_at limits vp.0 bank.old levels.old controllers.old) hit slot).what }
+    ensures state { state_of bank.new levels.new ≡ (hit_or_held (may_enter (state_of bank.old levels.old)) (origin_at limits vp.0 bank.old levels.old controllers.old) hit slot).state }
+    ensures controllers { held_of controllers.new ≡ (hit_or_held (may_enter (state_of bank.old levels.old)) (origin_at limits vp.0 bank.old levels.old controllers.old) hit slot).controllers }
+    ensures room { controllers.old.synic.room ≤ controllers.new.synic.room + 1 }
+{
+    let note = hit_note_of(vp, bank, levels, &hit);
+    match interrupt_entry(bank, levels, limits.pages) {
+        Ok(_) => What::Hit(controllers.synic.post(slot, note)),
+        Err(_) => What::Hit(Posted::Held),
     }
 }
 
@@ -73,9 +96,9 @@ pub fn end_message(
     controllers: &mut Controllers,
     slot: Option<u64>,
 ) -> What
-    ensures what { (pages number : ℕ) → result ≡ (eom_outcome (origin_at pages number bank.old levels.now controllers.old) slot).what }
-    ensures state { (pages number : ℕ) → state_of bank.new levels.now ≡ (eom_outcome (origin_at pages number bank.old levels.now controllers.old) slot).state }
-    ensures controllers { (pages number : ℕ) → held_of controllers.new ≡ (eom_outcome (origin_at pages number bank.old levels.now controllers.old) slot).controllers }
+    ensures what { (limits : Limits) (number : ℕ) → result ≡ (eom_outcome (origin_at limits number bank.old levels.now controllers.old) slot).what }
+    ensures state { (limits : Limits) (number : ℕ) → state_of bank.new levels.now ≡ (eom_outcome (origin_at limits number bank.old levels.now controllers.old) slot).state }
+    ensures controllers { (limits : Limits) (number : ℕ) → held_of controllers.new ≡ (eom_outcome (origin_at limits number bank.old levels.now controllers.old) slot).controllers }
     ensures room { controllers.new.synic.room ≡ controllers.old.synic.room }
 {
     let word = match levels.active() {

@@ -12,18 +12,19 @@ use crate::controllers::Controllers;
 use crate::decided::Decided;
 use crate::hypercalls::replied;
 use crate::interrupts::{ack, end_interrupt, poll};
-use crate::messages::{deny, end_message};
+use crate::messages::{deny, end_message, intercept};
 use crate::registers::{go_to, may_name};
+use crate::slices::{part, set_registers};
 use register_file::{BadValue, Bank};
-use vsm_base::{Name, VpIndex};
+use vsm_base::{Limits, Name, VpIndex};
 use vsm_core::{Grant, GuestFault, Op, What};
 use vtl_state::{Levels, go_on, put_legal, word_of};
 use vtl_switch::{Refused, call, give_back};
 
 fn set(bank: &mut Bank, levels: &Levels, name: Name, value: u128) -> What
-    ensures what { (pages number : ℕ) (held : Contents) → result ≡ (set_outcome (origin_with pages number bank.old levels.now held) name value).what }
-    ensures state { (pages number : ℕ) (held : Contents) → state_of bank.new levels.now ≡ (set_outcome (origin_with pages number bank.old levels.now held) name value).state }
-    ensures held { (pages number : ℕ) (held : Contents) → (set_outcome (origin_with pages number bank.old levels.now held) name value).controllers ≡ held }
+    ensures what { (limits : Limits) (number : ℕ) (held : Contents) → result ≡ (set_outcome (origin_with limits number bank.old levels.now held) name value).what }
+    ensures state { (limits : Limits) (number : ℕ) (held : Contents) → state_of bank.new levels.now ≡ (set_outcome (origin_with limits number bank.old levels.now held) name value).state }
+    ensures held { (limits : Limits) (number : ℕ) (held : Contents) → (set_outcome (origin_with limits number bank.old levels.now held) name value).controllers ≡ held }
 {
     if !may_name(bank, levels, name) {
         return What::Fault(GuestFault::Gp);
@@ -39,9 +40,9 @@ fn set(bank: &mut Bank, levels: &Levels, name: Name, value: u128) -> What
 }
 
 fn get(bank: &mut Bank, levels: &Levels, name: Name) -> What
-    ensures what { (pages number : ℕ) (held : Contents) → result ≡ (get_outcome (origin_with pages number bank.old levels.now held) name).what }
-    ensures state { (pages number : ℕ) (held : Contents) → state_of bank.new levels.now ≡ (get_outcome (origin_with pages number bank.old levels.now held) name).state }
-    ensures held { (pages number : ℕ) (held : Contents) → (get_outcome (origin_with pages number bank.old levels.now held) name).controllers ≡ held }
+    ensures what { (limits : Limits) (number : ℕ) (held : Contents) → result ≡ (get_outcome (origin_with limits number bank.old levels.now held) name).what }
+    ensures state { (limits : Limits) (number : ℕ) (held : Contents) → state_of bank.new levels.now ≡ (get_outcome (origin_with limits number bank.old levels.now held) name).state }
+    ensures held { (limits : Limits) (number : ℕ) (held : Contents) → (get_outcome (origin_with limits number bank.old levels.now held) name).controllers ≡ held }
 {
     if !may_name(bank, levels, name) {
         return What::Fault(GuestFault::Gp);
@@ -63,9 +64,9 @@ fn jump_ne(bank: &mut Bank, levels: &Levels, name: Name, value: u64, rip: u64)
 }
 
 fn local(bank: &mut Bank, levels: &Levels, controllers: &mut Controllers, op: Op) -> What
-    ensures what { (pages number : ℕ) → result ≡ (local_outcome (origin_at pages number bank.old levels.now controllers.old) op).what }
-    ensures state { (pages number : ℕ) → state_of bank.new levels.now ≡ (local_outcome (origin_at pages number bank.old levels.now controllers.old) op).state }
-    ensures controllers { (pages number : ℕ) → held_of controllers.new ≡ (local_outcome (origin_at pages number bank.old levels.now controllers.old) op).controllers }
+    ensures what { (limits : Limits) (number : ℕ) → result ≡ (local_outcome (origin_at limits number bank.old levels.now controllers.old) op).what }
+    ensures state { (limits : Limits) (number : ℕ) → state_of bank.new levels.now ≡ (local_outcome (origin_at limits number bank.old levels.now controllers.old) op).state }
+    ensures controllers { (limits : Limits) (number : ℕ) → held_of controllers.new ≡ (local_outcome (origin_at limits number bank.old levels.now controllers.old) op).controllers }
     ensures synic { controllers.new.synic ≡ controllers.old.synic }
 {
     match op {
@@ -115,9 +116,9 @@ pub fn again(op: Op, decided: &Decided) -> Option<Grant>
 }
 
 fn call_on(bank: &mut Bank, levels: &mut Levels, pages: u32) -> What
-    ensures what { (pages number : ℕ) (held : Contents) → result ≡ (switched (may_call (state_of bank.old levels.old)) (origin_with pages number bank.old levels.old held) (called (state_of bank.old levels.old))).what }
-    ensures state { (pages number : ℕ) (held : Contents) → state_of bank.new levels.new ≡ (switched (may_call (state_of bank.old levels.old)) (origin_with pages number bank.old levels.old held) (called (state_of bank.old levels.old))).state }
-    ensures held { (pages number : ℕ) (held : Contents) → (switched (may_call (state_of bank.old levels.old)) (origin_with pages number bank.old levels.old held) (called (state_of bank.old levels.old))).controllers ≡ held }
+    ensures what { (limits : Limits) (number : ℕ) (held : Contents) → result ≡ (switched (may_call (state_of bank.old levels.old)) (origin_with limits number bank.old levels.old held) (called (state_of bank.old levels.old))).what }
+    ensures state { (limits : Limits) (number : ℕ) (held : Contents) → state_of bank.new levels.new ≡ (switched (may_call (state_of bank.old levels.old)) (origin_with limits number bank.old levels.old held) (called (state_of bank.old levels.old))).state }
+    ensures held { (limits : Limits) (number : ℕ) (held : Contents) → (switched (may_call (state_of bank.old levels.old)) (origin_with limits number bank.old levels.old held) (called (state_of bank.old levels.old))).controllers ≡ held }
 {
     match call(bank, levels, pages) {
         Ok(_) => What::Plain,
@@ -126,9 +127,9 @@ fn call_on(bank: &mut Bank, levels: &mut Levels, pages: u32) -> What
 }
 
 fn return_on(bank: &mut Bank, levels: &mut Levels, pair: Option<(u64, u64)>) -> What
-    ensures what { (pages number : ℕ) (held : Contents) → result ≡ (switched (may_return (state_of bank.old levels.old)) (origin_with pages number bank.old levels.old held) (returned (state_of bank.old levels.old) pair)).what }
-    ensures state { (pages number : ℕ) (held : Contents) → state_of bank.new levels.new ≡ (switched (may_return (state_of bank.old levels.old)) (origin_with pages number bank.old levels.old held) (returned (state_of bank.old levels.old) pair)).state }
-    ensures held { (pages number : ℕ) (held : Contents) → (switched (may_return (state_of bank.old levels.old)) (origin_with pages number bank.old levels.old held) (returned (state_of bank.old levels.old) pair)).controllers ≡ held }
+    ensures what { (limits : Limits) (number : ℕ) (held : Contents) → result ≡ (switched (may_return (state_of bank.old levels.old)) (origin_with limits number bank.old levels.old held) (returned (state_of bank.old levels.old) pair)).what }
+    ensures state { (limits : Limits) (number : ℕ) (held : Contents) → state_of bank.new levels.new ≡ (switched (may_return (state_of bank.old levels.old)) (origin_with limits number bank.old levels.old held) (returned (state_of bank.old levels.old) pair)).state }
+    ensures held { (limits : Limits) (number : ℕ) (held : Contents) → (switched (may_return (state_of bank.old levels.old)) (origin_with limits number bank.old levels.old held) (returned (state_of bank.old levels.old) pair)).controllers ≡ held }
 {
     match give_back(bank, levels, pair) {
         Ok(()) => What::Plain,
@@ -136,10 +137,10 @@ fn return_on(bank: &mut Bank, levels: &mut Levels, pair: Option<(u64, u64)>) -> 
     }
 }
 
-/// What an attempt comes to by its decision, on so many pages. It changes the registers, the active level and the
+/// What an attempt comes to by its decision, under these limits. It changes the registers, the active level and the
 /// controllers so.
 pub fn finish(
-    pages: u32,
+    limits: Limits,
     vp: VpIndex,
     bank: &mut Bank,
     levels: &mut Levels,
@@ -148,22 +149,29 @@ pub fn finish(
     decided: Decided,
 ) -> What
     requires { 0 < controllers.old.synic.room }
-    ensures what { result ≡ (result_of (origin_at pages vp.0 bank.old levels.old controllers.old) op decided).what }
-    ensures state { state_of bank.new levels.new ≡ (result_of (origin_at pages vp.0 bank.old levels.old controllers.old) op decided).state }
-    ensures controllers { held_of controllers.new ≡ (result_of (origin_at pages vp.0 bank.old levels.old controllers.old) op decided).controllers }
+    ensures what { result ≡ (result_of (origin_at limits vp.0 bank.old levels.old controllers.old) op decided).what }
+    ensures state { state_of bank.new levels.new ≡ (result_of (origin_at limits vp.0 bank.old levels.old controllers.old) op decided).state }
+    ensures controllers { held_of controllers.new ≡ (result_of (origin_at limits vp.0 bank.old levels.old controllers.old) op decided).controllers }
     ensures room { controllers.old.synic.room ≤ controllers.new.synic.room + 1 }
 {
     match decided {
         Decided::Local => local(bank, levels, controllers, op),
         Decided::Granted(grant) => granted(bank, levels, op, grant),
         Decided::Denied(refusal, slot) => {
-            deny(pages, vp, bank, levels, controllers, refusal, slot)
+            deny(limits, vp, bank, levels, controllers, refusal, slot)
         }
+        Decided::Hit(hit, slot) => intercept(limits, vp, bank, levels, controllers, hit, slot),
         Decided::Fault(fault) => What::Fault(fault),
-        Decided::Called => call_on(bank, levels, pages),
+        Decided::Called => call_on(bank, levels, limits.pages),
         Decided::Returned(pair) => return_on(bank, levels, pair),
         Decided::Polled(found) => poll(bank, levels, controllers, found),
         Decided::Replied(value, context) => replied(bank, levels, value, &context),
+        Decided::Part(next) => part(bank, levels, next),
+        Decided::Set {
+            target,
+            frame,
+            words,
+        } => set_registers(bank, levels, target, frame, &words),
         Decided::Eom(slot) => end_message(bank, levels, controllers, slot),
     }
 }

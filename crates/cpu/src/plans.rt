@@ -1,26 +1,26 @@
 // The steps by which level 1 is told of an intercept, and by which a message is ended.
-ghost use Rattle.std.specs.Prelude.{◌≡◌, ◌++◌, ◌^◌, ◌%◌, ◌<◌, ℕ, Some, IfSome};
+ghost use Rattle.std.specs.Prelude.{◌≡◌, ◌++◌, ◌^◌, ◌%◌, ◌+◌, ◌<◌, ◌≤◌, ℕ, Some, IfSome, take};
 ghost use Rattle.vsm_base.specs.declared.name.Name.{Name};
 ghost use Rattle.vsm_base.specs.declared.places.Vtl.{Vtl};
 ghost use Rattle.vsm_core.specs.Attempt.{told_on, posting as posting_lem, sending as sending_lem};
-ghost use Rattle.vsm_core.specs.Controllers.{message_page as message_page_lem, sint0_vector as sint0_vector_lem, message_steps, pending_steps};
+ghost use Rattle.vsm_core.specs.Controllers.{message_page as message_page_lem, sint0_vector as sint0_vector_lem, message_steps, pending_steps, writes};
 ghost use Rattle.vsm_core.specs.Messages.{flagged as flagged_lem};
 ghost use Rattle.vsm_core.specs.Outcomes.{note_of as note_of_lem};
 ghost use Rattle.vsm_core.specs.Registers.{get};
 ghost use Rattle.vtl_state.specs.States.{state_of};
 ghost use Rattle.vtl_switch.specs.Answers.{number_of};
 ghost use Rattle.cpu.specs.Held.{bare_levels, bare_state, bare_origin, origin_at};
-ghost use Rattle.cpu.specs.Results.{refusal_of};
+ghost use Rattle.cpu.specs.Results.{hit_note, refusal_of};
 ghost use Rattle.cpu.specs.Tasks.{plan_steps, PlanIs};
 
 use crate::controllers::Controllers;
-use crate::decided::Refusal;
+use crate::decided::{Intercept, Refusal};
 use crate::task::Plan;
 use intercept_msg::words;
 use register_file::Bank;
 use synic::{is_open, with_pending};
-use vsm_base::{Name, Page, VpIndex, Vtl};
-use vsm_core::{MemNote, Note};
+use vsm_base::{Limits, Name, Page, VpIndex, Vtl};
+use vsm_core::{MemNote, Note, RegNote};
 use vtl_state::{Levels, word_of};
 
 /// Level 1 was entered by an interrupt or an intercept (TLFS, HV_VTL_ENTRY_REASON).
@@ -77,6 +77,22 @@ pub fn note_of(vp: VpIndex, bank: &Bank, levels: &Levels, refusal: &Refusal) -> 
     })
 }
 
+/// What level 1 is told of a register that it intercepts (TLFS, Register Intercept Messages).
+pub fn hit_note_of(vp: VpIndex, bank: &Bank, levels: &Levels, hit: &Intercept) -> Note
+    ensures { result ≡ hit_note (bare_origin vp.0 (state_of bank.now levels.now)) hit.now }
+{
+    let level = levels.active();
+    Note::Register(RegNote {
+        vp,
+        write: hit.write,
+        cs: bank.get(level, Name::Cs),
+        rip: word_of(bank, levels, Name::Rip),
+        rflags: word_of(bank, levels, Name::Rflags),
+        name: hit.name.number(),
+        value: hit.value,
+    })
+}
+
 /// No step, but that the assist page is told the reason.
 pub fn nothing(vp: VpIndex, told: Option<Page>, reason: u32) -> Plan
     ensures steps { plan_steps result ≡ told_on (number_of told) reason }
@@ -85,7 +101,8 @@ pub fn nothing(vp: VpIndex, told: Option<Page>, reason: u32) -> Plan
     Plan {
         vp,
         page: Page(0),
-        words: [0; 12],
+        at: 0,
+        words: [0; 16],
         next: 0,
         count: 0,
         vector: None,
@@ -94,16 +111,35 @@ pub fn nothing(vp: VpIndex, told: Option<Page>, reason: u32) -> Plan
     }
 }
 
+/// These words, so many, go to a page, from this place on.
+pub fn put_words(vp: VpIndex, page: Page, at: u16, words: [u64; 16], count: u8) -> Plan
+    ensures steps { plan_steps result ≡ writes page.0 at (take count words) }
+    ensures is { (pages : ℕ) → page.0 < pages → count ≤ 16 → at + count ≤ 512 → PlanIs pages vp.0 result }
+{
+    Plan {
+        vp,
+        page,
+        at,
+        words,
+        next: 0,
+        count,
+        vector: None,
+        told: None,
+        reason: BY_INTERRUPT,
+    }
+}
+
 /// The slot is told that more messages wait.
 fn pending(vp: VpIndex, page: Page, word: u64, told: Option<Page>) -> Plan
     ensures steps { plan_steps result ≡ pending_steps page.0 word ++ told_on (number_of told) 2 }
     ensures is { (pages : ℕ) → page.0 < pages → IfSome told (λ page. page.0 < pages) → PlanIs pages vp.0 result }
 {
-    let mut words = [0; 12];
+    let mut words = [0; 16];
     words[0] = with_pending(word);
     Plan {
         vp,
         page,
+        at: 0,
         words,
         next: 0,
         count: 1,
@@ -111,6 +147,15 @@ fn pending(vp: VpIndex, page: Page, word: u64, told: Option<Page>) -> Plan
         told,
         reason: BY_INTERRUPT,
     }
+}
+
+/// A message's words in a plan, which has room for more.
+fn padded(words: &[u64; 12]) -> [u64; 16]
+    ensures { take 12 result ≡ words.now }
+{
+    let mut padded = [0; 16];
+    padded[..12].copy_from_slice(words);
+    padded
 }
 
 /// A message goes to the slot.
@@ -121,7 +166,8 @@ fn message(vp: VpIndex, bank: &Bank, page: Page, words: [u64; 12], told: Option<
     Plan {
         vp,
         page,
-        words,
+        at: 0,
+        words: padded(&words),
         next: 0,
         count: 12,
         vector: sint0_vector(bank),
@@ -143,7 +189,7 @@ fn flagged(words: [u64; 12], more: bool) -> [u64; 12]
 
 /// The steps by which level 1 is told of a denied access and entered, where the message slot has this first word.
 pub fn posting(
-    pages: u32,
+    limits: Limits,
     vp: VpIndex,
     bank: &Bank,
     controllers: &Controllers,
@@ -151,11 +197,11 @@ pub fn posting(
     word: u64,
     told: Option<Page>,
 ) -> Plan
-    requires { IfSome told (λ page. page.0 < pages) }
-    ensures steps { plan_steps result ≡ posting_lem (origin_at pages vp.0 bank.now bare_levels controllers.now) (message_page_lem pages (bare_state bank.now)) note.now (Some word) ++ told_on (number_of told) 2 }
-    ensures is { PlanIs pages vp.0 result }
+    requires { IfSome told (λ page. page.0 < limits.pages) }
+    ensures steps { plan_steps result ≡ posting_lem (origin_at limits vp.0 bank.now bare_levels controllers.now) (message_page_lem limits.pages (bare_state bank.now)) note.now (Some word) ++ told_on (number_of told) 2 }
+    ensures is { PlanIs limits.pages vp.0 result }
 {
-    let Some(page) = message_page(pages, bank) else {
+    let Some(page) = message_page(limits.pages, bank) else {
         return nothing(vp, told, BY_INTERRUPT);
     };
     if !is_open(Some(word)) {
@@ -169,11 +215,17 @@ pub fn posting(
 }
 
 /// The steps of an end of message, where the message slot has this first word.
-pub fn sending(pages: u32, vp: VpIndex, bank: &Bank, controllers: &Controllers, word: u64) -> Plan
-    ensures steps { plan_steps result ≡ sending_lem (origin_at pages vp.0 bank.now bare_levels controllers.now) (message_page_lem pages (bare_state bank.now)) controllers.now.synic.waiting word }
-    ensures is { PlanIs pages vp.0 result }
+pub fn sending(
+    limits: Limits,
+    vp: VpIndex,
+    bank: &Bank,
+    controllers: &Controllers,
+    word: u64,
+) -> Plan
+    ensures steps { plan_steps result ≡ sending_lem (origin_at limits vp.0 bank.now bare_levels controllers.now) (message_page_lem limits.pages (bare_state bank.now)) controllers.now.synic.waiting word }
+    ensures is { PlanIs limits.pages vp.0 result }
 {
-    let Some(page) = message_page(pages, bank) else {
+    let Some(page) = message_page(limits.pages, bank) else {
         return nothing(vp, None, BY_INTERRUPT);
     };
     let waiting = controllers.synic.waiting();

@@ -1,10 +1,10 @@
 // A processor, its attempts and its turns.
 ghost use Rattle.std.specs.Prelude.{◌≡◌, ◌≢◌, [], ◌+◌, ◌-◌, ◌<◌, ◌≤◌, true, false, None, Some, IfSome, IfNone, IfOk, length, drop};
 ghost use Rattle.std.specs.List.{All};
-ghost use Rattle.vsm_core.specs.Processor.{opening, standing, operation_at, operations_of, length_of, rest_of, settled, marked, came_to, new_marks, origin_of, IsShort, IsSameProcessor};
+ghost use Rattle.vsm_core.specs.Processor.{opening, standing, operation_at, operations_of, length_of, rest_of, settled, marked, came_to, new_marks, origin_of, answered, IsShort, IsSameProcessor};
 ghost use Rattle.vsm_core.specs.Attempt.{attempt, most_steps_of};
 ghost use Rattle.vsm_core.specs.Outcomes.{Outcome, outcome_at};
-ghost use Rattle.vsm_core.specs.Tree.{Ends};
+ghost use Rattle.vsm_core.specs.Tree.{Ends, by_reply};
 ghost use Rattle.cpu.specs.Sound.{length_at};
 ghost use Rattle.vtl_state.specs.States.{state_of};
 ghost use Rattle.cpu.specs.Results.{result_of};
@@ -15,14 +15,14 @@ use crate::controllers::Controllers;
 use crate::cpu_turn::{CpuTurn, after_mark};
 use crate::decided::Decided;
 use crate::endings::{ending, ending_on, opening_ending};
-use crate::hypercalls::{own_context, request};
+use crate::hypercalls::request;
 use crate::judging::judged;
 use crate::log::Log;
 use crate::operations::{again, finish};
+use crate::replying::replied_stage;
 use crate::stage::{Stage, Under, is_going};
 use crate::stepping::step;
 use fabric::Port;
-use hyper_abi::ResultValue;
 use register_file::Bank;
 use secure_intr::Pending;
 use std::alloc::Global;
@@ -30,7 +30,7 @@ use std::marker::Model;
 use synic::Synic;
 use vsm_base::{Items, Limits, Memory, Name, Reserved, VpIndex, Vtl};
 use vsm_core::{
-    Ending, Event, Grant, GuestFault, Mark, Op, PendingWord, Phase, Program, Reply, What,
+    Ending, Event, Grant, GuestFault, Heard, Mark, Op, PendingWord, Phase, Program, Reply, What,
 };
 use vtl_state::{Levels, word_of};
 
@@ -48,6 +48,7 @@ pub struct Cpu {
     controllers: Controllers,
     under: Option<Under>,
     owes: bool,
+    heard: Option<Heard>,
     log: Log,
 }
 
@@ -130,6 +131,7 @@ impl Cpu {
             },
             under: None,
             owes: false,
+            heard: None,
             log,
         })
     }
@@ -154,7 +156,7 @@ impl Cpu {
         let level = self.levels.active();
         let rip = word_of(&self.bank, &self.levels, Name::Rip);
         let what = finish(
-            self.limits.pages,
+            self.limits,
             self.vp,
             &mut self.bank,
             &mut self.levels,
@@ -175,6 +177,7 @@ impl Cpu {
         );
         let turn = after_mark(&what, ended);
         self.under = None;
+        self.heard = None;
         self.log.mark(level, rip, what, ended);
         turn
     }
@@ -189,6 +192,7 @@ impl Cpu {
         requires idle { phase_at self.old.seen self.old.first ≡ Phase.Idle }
         requires few { length self.old.seen - self.old.first ≤ 13 }
         requires op { self.old.op ≡ Some op }
+        requires unheard { self.old.heard ≡ None }
         requires asks { (o : Outcome) → attempt (origin_of self.old) op ≢ Ends o }
         requires spins { op ≢ Op.Poll }
         requires no_call { op ≢ Op.Hypercall }
@@ -214,7 +218,7 @@ impl Cpu {
             }
             None => {
                 let stage = begin(
-                    self.limits.pages,
+                    self.limits,
                     self.vp,
                     &self.bank,
                     &self.levels,
@@ -275,7 +279,7 @@ impl Cpu {
     {
         let ops = operations(program, &self.levels);
         let under = begun(
-            self.limits.pages,
+            self.limits,
             self.vp,
             &self.bank,
             &self.levels,
@@ -295,7 +299,7 @@ impl Cpu {
         let step = step(under.stage, port);
         self.log.see(step.event);
         let stage = judged(
-            self.limits.pages,
+            self.limits,
             self.vp,
             &self.bank,
             &self.levels,
@@ -346,8 +350,8 @@ impl Cpu {
     /// level's program stands, and leaves a mark where the attempt has then come to its end. An attempt that has no
     /// step left makes none, nor does one that asks something of the partition: that request is what the turn answers,
     /// and the processor then needs the reply. A mark has at most 13 events, and at most 12 where the access was denied
-    /// without level 1; where level 1 is told of it, at most 15 more. An end of message has at most 17, a hypercall at
-    /// most 34.
+    /// without level 1; where level 1 is told of it, at most 15 more. An end of message has at most 17, an intercepted
+    /// register 18, a hypercall 38.
     ///
     /// A denied access of level 0 ends a processor without level 1. Else level 1 is told by one note, whose message goes to
     /// the message slot or waits, and is entered, before the access is left (TLFS, Virtual Secure Mode, Memory Access
@@ -364,7 +368,13 @@ impl Cpu {
     ///
     /// A hypercall is undefined above privilege level 0. What refuses its input value or the place of its input (see
     /// `hyper_abi::admit`) refuses it at once, and then RAX has the result and all other registers but Rip stay. Else the
-    /// header is read from memory, unless it is fast; level 0 needs a page that it may read (TLFS, Hypercall Interface).
+    /// header is read from memory, unless it is fast; level 0 needs a page that it may read (TLFS, Hypercall Interface). A
+    /// call that gets or sets registers reads one slice of its elements, too, and acts on them (see `rep_frame`): where
+    /// elements are left RCX tells which is next, and RAX and Rip stay. One that gets registers needs a page that level 0 may
+    /// write. The status of the partition is asked of the partition, and written in an access of its own.
+    ///
+    /// A set or a get of level 0 that level 1 intercepts (see `reg_intercept::Watch`) changes no register: level 1 is told by
+    /// one note and entered (TLFS, HV_REGISTER_CR_INTERCEPT_CONTROL).
     ///
     /// It needs a processor without an ending that waits for no reply, the programs that it was made with, and its own port, in the phase in
     /// which its last turn left it. All this is this project's own.
@@ -392,42 +402,43 @@ impl Cpu {
         }
     }
 
-    /// Takes the reply to the request that the last turn answered. The attempt comes to its end by it: RAX has the result,
-    /// and where the reply brings a context, level 1 is enabled with it (TLFS, HvCallEnableVpVtl). All other registers but
-    /// Rip stay. It makes no step and takes no memory.
+    /// Takes the reply to the request that the last turn answered. The attempt goes on by it, or comes to its end: RAX has
+    /// the result, and where the reply brings a context, level 1 is enabled with it (TLFS, HvCallEnableVpVtl). All other
+    /// registers but Rip stay. It makes no step and takes no memory.
     ///
     /// It needs a processor that waits for a reply, and fewer than 4096 elements done.
     pub fn accept(&mut self, reply: Reply) -> CpuTurn
         requires owes { self.old.owes ≡ true }
         requires done { reply.done < 4096 }
         ensures accepted { AcceptsBy (rest_of self.old self.old.op) reply self.old self.new result }
-        ensures rests { self.new.first ≡ length self.new.seen }
-        ensures seen { self.new.seen ≡ self.old.seen }
+        ensures left { rest_of (answered reply self.old) self.old.op ≡ by_reply (rest_of self.old self.old.op) reply }
+        ensures unheard { self.old.heard ≡ None }
         ensures phase { phase_at self.new.seen self.new.first ≡ phase_at self.old.seen self.old.first }
         ensures short { All IsShort (new_marks self.old self.new) }
         ensures same { IsSameProcessor self.old self.new }
-        ensures idle { self.new.op ≡ None }
         ensures owes { self.new.owes ≡ false }
+        ensures kept { Keeps self.old self.new }
         ensures within { length self.new.marks ≤ self.old.limits.budget }
     {
         let Some(under) = self.under else {
             unreachable!()
         };
-        let Under { op, .. } = under;
-        let status = reply.status;
-        let done = reply.done;
-        let value = ResultValue { status, done }.bits();
+        let Under { op, stage } = under;
+        let stage = replied_stage(self.vp, &self.levels, &stage, &reply);
+        let after = (self.log.seen.as_slice().len() - self.log.first) as u32;
+        self.under = Some(Under { op, stage });
+        self.heard = Some(Heard { after, reply });
         self.owes = false;
-        self.mark(op, Decided::Replied(value, own_context(&reply)))
+        self.settle()
     }
 
-    /// The processor's number. The attempt under way has at most 34 events.
+    /// The processor's number. The attempt under way has at most 38 events.
     pub fn vp(&self) -> VpIndex
         ensures number { result.0 ≡ self.now.number }
         ensures below { self.now.number < self.now.limits.vps }
         ensures part { self.now.part ≤ self.now.first }
         ensures first { self.now.first ≤ length self.now.seen }
-        ensures few { length self.now.seen ≤ self.now.first + 34 }
+        ensures few { length self.now.seen ≤ self.now.first + 38 }
     {
         self.vp
     }

@@ -4,6 +4,7 @@ ghost use Rattle.cpu.specs.Stages.{is_going as is_going_lem};
 
 use crate::decided::Decided;
 use crate::input::{Asked, Input};
+use crate::output::Output;
 use crate::task::{Case, Gate, Taken, Task};
 use access_path::Path;
 use vsm_core::{Event, Op};
@@ -21,8 +22,12 @@ pub enum Stage {
     Touch { gate: Gate, task: Task },
     /// A hypercall reads its input.
     Input { input: Input },
+    /// A hypercall asks this of the partition, once the access to its input is left, which comes next.
+    Depart { asked: Asked },
     /// A hypercall asks this of the partition; no step is made from here, and it goes on by the reply alone.
     Want { asked: Asked },
+    /// A hypercall writes its output in an access of its own.
+    Output { output: Output },
     /// It was decided, and the leave of its access comes next.
     Leave { decided: Decided },
     /// It has no step left.

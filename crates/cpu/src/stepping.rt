@@ -10,6 +10,8 @@ ghost use Rattle.cpu.specs.Results.{granted_of};
 ghost use Rattle.cpu.specs.Stages.{StageRest, StageMay, StageAt, StageServes, StageSteps, IsReached};
 
 use crate::decided::{Decided, Refusal};
+use crate::input::Asked;
+use crate::putting::put_output;
 use crate::reading::read_input;
 use crate::stage::{Stage, StageStep};
 use crate::taking::take;
@@ -75,6 +77,17 @@ fn leave<P: Port>(decided: Decided, port: &mut P) -> StageStep
     }
 }
 
+fn depart<P: Port>(asked: Asked, port: &mut P) -> StageStep
+    requires { StageServes (Stage.Depart asked) (P.seat port.old) }
+    ensures { StageSteps (Stage.Depart asked) (P.seat port.old) (P.seat port.new) result }
+{
+    port.leave();
+    StageStep {
+        event: Event::Leave,
+        stage: Stage::Want { asked },
+    }
+}
+
 /// Makes the next step of an attempt.
 pub fn step<P: Port>(stage: Stage, port: &mut P) -> StageStep
     requires { StageServes stage (P.seat port.old) }
@@ -85,6 +98,8 @@ pub fn step<P: Port>(stage: Stage, port: &mut P) -> StageStep
         Stage::Take { taken } => take(taken, port),
         Stage::Touch { gate, task } => touch(gate, task, port),
         Stage::Input { input } => read_input(input, port),
+        Stage::Depart { asked } => depart(asked, port),
+        Stage::Output { output } => put_output(output, port),
         Stage::Leave { decided } => leave(decided, port),
         Stage::Judge { .. } => unreachable!(),
         Stage::Want { .. } => unreachable!(),

@@ -1,5 +1,6 @@
 // What an operation does in an access of its own that touches a few memory words, and in one that was denied.
-use crate::decided::{Decided, Refusal};
+use crate::decided::{Decided, Intercept, Refusal};
+use crate::input::Input;
 use vsm_base::{Page, VpIndex};
 
 /// How far the access has come.
@@ -14,13 +15,14 @@ pub enum Gate {
 }
 
 /// Steps that are still to be made, none of which teaches anything: the words from `next` on and below `count` are
-/// written to their places in a page, then a vector is requested for level 1 of this processor, and then the assist page
-/// is told the reason of an entry.
+/// written to their places in a page, the first of all words at the place `at`, then a vector is requested for level 1 of
+/// this processor, and then the assist page is told the reason of an entry.
 #[derive(Clone, Copy, Debug)]
 pub struct Plan {
     pub vp: VpIndex,
     pub page: Page,
-    pub words: [u64; 12],
+    pub at: u16,
+    pub words: [u64; 16],
     pub next: u8,
     pub count: u8,
     pub vector: Option<u8>,
@@ -33,6 +35,8 @@ pub struct Plan {
 pub enum Matter {
     /// The note of a denied access is posted.
     Denial(Refusal),
+    /// The note of an intercepted register is posted.
+    Hit(Intercept),
     /// A message is ended.
     Ending,
 }
@@ -66,4 +70,6 @@ pub enum Case {
     Found(Matter, u64),
     /// A poll has taken these words.
     Polled([u64; 8]),
+    /// A hypercall has read all words of its input.
+    Read(Input),
 }

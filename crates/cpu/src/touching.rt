@@ -80,7 +80,7 @@ fn write_next<P: Port>(plan: Plan, decided: Decided, port: &mut P) -> StageStep
     ensures { StageSteps (Stage.Touch Gate.Inside (Task.Make plan decided)) (P.seat port.old) (P.seat port.new) result }
 {
     let value = plan.words[plan.next as usize];
-    let index = u16::from(plan.next);
+    let index = plan.at + u16::from(plan.next);
     let _ = port.write(plan.page, index, value);
     let page = plan.page;
     let rest = Plan {

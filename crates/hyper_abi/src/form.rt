@@ -27,11 +27,16 @@ pub enum Call {
     EnablePartitionVtl,
     /// HvCallEnableVpVtl.
     EnableVpVtl,
+    /// HvCallGetVpRegisters.
+    GetVpRegisters,
+    /// HvCallSetVpRegisters.
+    SetVpRegisters,
 }
 
 impl Call {
     /// The call of this code: 0x000D is HvCallEnablePartitionVtl and 0x000F is HvCallEnableVpVtl (TLFS, Virtual Secure
-    /// Mode). That there are no other calls is this project's own.
+    /// Mode), 0x0050 is HvCallGetVpRegisters and 0x0051 is HvCallSetVpRegisters (TLFS, Virtual Processors). That there are
+    /// no other calls is this project's own.
     ///
     /// `None` exactly where no call has the code.
     #[tactic(auto, unfolding(vsm_core::specs::Calls::row_of, vsm_core::specs::Calls::rows))]
@@ -41,11 +46,13 @@ impl Call {
         match code {
             0x000D => Some(Call::EnablePartitionVtl),
             0x000F => Some(Call::EnableVpVtl),
+            0x0050 => Some(Call::GetVpRegisters),
+            0x0051 => Some(Call::SetVpRegisters),
             _ => None,
         }
     }
 
-    /// The form of its input. Neither of the calls that there are is a rep call.
+    /// The form of its input and output. Those that get and set registers are rep calls.
     pub fn form(self) -> CallForm
         ensures { row_from result ≡ row_for self }
     {
@@ -64,6 +71,22 @@ impl Call {
                 fast: false,
                 header: 240,
                 element: 0,
+                output: 0,
+            },
+            Call::GetVpRegisters => CallForm {
+                code: 0x0050,
+                rep: true,
+                fast: false,
+                header: 16,
+                element: 4,
+                output: 16,
+            },
+            Call::SetVpRegisters => CallForm {
+                code: 0x0051,
+                rep: true,
+                fast: false,
+                header: 16,
+                element: 32,
                 output: 0,
             },
         }

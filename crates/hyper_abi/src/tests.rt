@@ -1,10 +1,15 @@
 use super::*;
 use crate::control::is_malformed;
-use vsm_base::HvStatus;
+use vsm_base::{HvStatus, Name, VpIndex, Vtl};
+use vsm_core::CallRegister;
 
 const ENABLE_PARTITION_VTL: u64 = 0x000D;
 
 const ENABLE_VP_VTL: u64 = 0x000F;
+
+const GET_VP_REGISTERS: u64 = 0x0050;
+
+const SET_VP_REGISTERS: u64 = 0x0051;
 
 /// A rep call of these tests alone.
 const REP: CallForm = CallForm {
@@ -130,8 +135,24 @@ fn calls_have_their_sizes(rt: HostRuntime) {
         header: 240,
         ..enable
     };
+    let get = CallForm {
+        code: 0x0050,
+        rep: true,
+        fast: false,
+        header: 16,
+        element: 4,
+        output: 16,
+    };
+    let set = CallForm {
+        code: 0x0051,
+        element: 32,
+        output: 0,
+        ..get
+    };
     assert_eq!(rt; form_of(0x000D), Some(enable));
     assert_eq!(rt; form_of(0x000F), Some(level));
+    assert_eq!(rt; form_of(0x0050), Some(get));
+    assert_eq!(rt; form_of(0x0051), Some(set));
     assert_eq!(rt; form_of(0x000E), None);
 }
 
@@ -189,32 +210,222 @@ fn an_element_stands_behind_the_header_and_those_before_it(rt: HostRuntime) {
 }
 
 /// Whether a call of two pages is refused so before its first step.
-fn is_not_admitted(value: u64, address: u64, status: HvStatus) -> bool {
-    admit(2, value, address) == Err(status)
+fn is_not_admitted(value: u64, address: u64, output: u64, status: HvStatus) -> bool {
+    admit(2, value, address, output) == Err(status)
 }
 
-/// Whether it isn't, and is this call, by its input in memory or in registers.
-fn is_admitted(value: u64, address: u64, call: Call, fast: bool) -> bool {
-    admit(2, value, address) == Ok(Admission { call, fast })
+/// Whether it isn't, and is this call of so many elements, by its input in memory or in registers.
+fn is_admitted(value: u64, address: u64, output: u64, admission: Admission) -> bool {
+    admit(2, value, address, output) == Ok(admission)
+}
+
+/// A call with no elements that is admitted.
+fn whole(call: Call, fast: bool) -> Admission {
+    Admission {
+        call,
+        fast,
+        count: 0,
+        start: 0,
+    }
 }
 
 #[test]
 fn a_call_is_judged_by_its_value_and_then_by_its_address(rt: HostRuntime) {
     let fast = ENABLE_PARTITION_VTL | 1 << 16;
-    assert!(rt; is_not_admitted(0x00FF, 1, HvStatus(0x0002)));
-    assert!(rt; is_not_admitted(ENABLE_VP_VTL | 1 << 16, 1, HvStatus(0x0003)));
-    assert!(rt; is_not_admitted(ENABLE_VP_VTL, 0x2F14, HvStatus(0x0004)));
-    assert!(rt; is_not_admitted(ENABLE_VP_VTL, 0x2F18, HvStatus(0x0003)));
-    assert!(rt; is_not_admitted(ENABLE_VP_VTL, 0x2F10, HvStatus(0x0005)));
-    assert!(rt; is_not_admitted(ENABLE_PARTITION_VTL, 0x1FF8, HvStatus(0x0003)));
-    assert!(rt; is_admitted(ENABLE_VP_VTL, 0x1F10, Call::EnableVpVtl, false));
+    let enable = whole(Call::EnablePartitionVtl, false);
+    assert!(rt; is_not_admitted(0x00FF, 1, 1, HvStatus(0x0002)));
+    assert!(rt; is_not_admitted(ENABLE_VP_VTL | 1 << 16, 1, 1, HvStatus(0x0003)));
+    assert!(rt; is_not_admitted(ENABLE_VP_VTL, 0x2F14, 1, HvStatus(0x0004)));
+    assert!(rt; is_not_admitted(ENABLE_VP_VTL, 0x2F18, 1, HvStatus(0x0003)));
+    assert!(rt; is_not_admitted(ENABLE_VP_VTL, 0x2F10, 1, HvStatus(0x0005)));
+    assert!(rt; is_not_admitted(ENABLE_PARTITION_VTL, 0x1FF8, 1, HvStatus(0x0003)));
+    assert!(rt; is_admitted(ENABLE_VP_VTL, 0x1F10, 1, whole(Call::EnableVpVtl, false)));
+    assert!(rt; is_admitted(ENABLE_PARTITION_VTL, 0x1FF0, 1, enable));
+    assert!(rt; is_admitted(fast, 0x2FFF, 1, whole(Call::EnablePartitionVtl, true)));
+}
+
+/// A call that gets or sets `count` registers from the one of index `start` on.
+fn rep(code: u64, count: u64, start: u64) -> u64 {
+    code | count << 32 | start << 48
+}
+
+#[test]
+fn an_output_is_judged_where_there_is_one(rt: HostRuntime) {
+    let get = rep(GET_VP_REGISTERS, 20, 8);
+    let admission = Admission {
+        call: Call::GetVpRegisters,
+        fast: false,
+        count: 20,
+        start: 8,
+    };
     assert!(rt;
-        is_admitted(
-            ENABLE_PARTITION_VTL,
-            0x1FF0,
-            Call::EnablePartitionVtl,
-            false
-        )
+        is_not_admitted(get, 0x1001, 0x1EC0, HvStatus(0x0004)),
+        "input askew"
     );
-    assert!(rt; is_admitted(fast, 0x2FFF, Call::EnablePartitionVtl, true));
+    assert!(rt;
+        is_not_admitted(get, 0x1FA8, 0x1EC1, HvStatus(0x0004)),
+        "output askew"
+    );
+    assert!(rt;
+        is_not_admitted(get, 0x2FA8, 0x1EC0, HvStatus(0x0003)),
+        "long input"
+    );
+    assert!(rt;
+        is_not_admitted(get, 0x2FA0, 0x1EC8, HvStatus(0x0003)),
+        "long output"
+    );
+    assert!(rt;
+        is_not_admitted(get, 0x2FA0, 0x1EC0, HvStatus(0x0005)),
+        "no input page"
+    );
+    assert!(rt;
+        is_not_admitted(get, 0x1FA0, 0x2EC0, HvStatus(0x0005)),
+        "no output page"
+    );
+    assert!(rt; is_admitted(get, 0x1FA0, 0x1EC0, admission));
+}
+
+#[test]
+fn all_elements_of_a_rep_call_stand_in_the_page(rt: HostRuntime) {
+    let set = rep(SET_VP_REGISTERS, 20, 19);
+    let admission = Admission {
+        call: Call::SetVpRegisters,
+        fast: false,
+        count: 20,
+        start: 19,
+    };
+    assert!(rt; is_admitted(set, 0x1D70, 0xFFFF, admission));
+    assert!(rt; is_not_admitted(set, 0x1D78, 0xFFFF, HvStatus(0x0003)));
+    assert!(rt; is_not_admitted(rep(SET_VP_REGISTERS, 20, 20), 0, 0, HvStatus(0x0003)));
+    assert!(rt; is_not_admitted(rep(SET_VP_REGISTERS, 0, 0), 0, 0, HvStatus(0x0003)));
+    assert!(rt;
+        is_not_admitted(set | 1 << 16, 0, 0, HvStatus(0x0003)),
+        "fast"
+    );
+}
+
+const OWN_PARTITION: u64 = u64::MAX;
+
+/// What refuses the header of these words of processor 2 of four.
+fn header_status(caller: Vtl, first: u64, second: u64) -> Option<HvStatus> {
+    register_refusal(4, VpIndex(2), caller, &[first, second])
+}
+
+/// Headers of level 0, with their statuses.
+const HEADERS: [(u64, u64, Option<HvStatus>); 12] = [
+    (0, 0x00FF_0004, Some(HvStatus(0x000D))),
+    (OWN_PARTITION, 4, Some(HvStatus(0x000E))),
+    (OWN_PARTITION, 3, Some(HvStatus(0x0015))),
+    (OWN_PARTITION, 2, None),
+    (OWN_PARTITION, 0xFFFF_FFFE, None),
+    (OWN_PARTITION, 0x10_FFFF_FFFE, None),
+    (OWN_PARTITION, 0x11_FFFF_FFFE, Some(HvStatus(0x0006))),
+    (OWN_PARTITION, 0x01_FFFF_FFFE, None),
+    (OWN_PARTITION, 0x12_FFFF_FFFE, Some(HvStatus(0x0005))),
+    (OWN_PARTITION, 0x20_FFFF_FFFE, Some(HvStatus(0x0005))),
+    (OWN_PARTITION, 0x100_FFFF_FFFE, Some(HvStatus(0x0005))),
+    (OWN_PARTITION, 0xFFFF_FFFF, Some(HvStatus(0x000E))),
+];
+
+#[test]
+fn a_header_names_the_caller_and_no_level_above_it(rt: HostRuntime) {
+    for (first, second, status) in HEADERS {
+        assert_eq!(rt; header_status(Vtl::Zero, first, second), status, "{second}");
+    }
+    let one = 0x11_FFFF_FFFE;
+    assert_eq!(rt; header_status(Vtl::One, OWN_PARTITION, one), None);
+    assert!(rt; target_level(Vtl::One, &[0, 0x10 << 32]) == Vtl::Zero);
+    assert!(rt; target_level(Vtl::Zero, &[0, one]) == Vtl::One);
+    assert!(rt; target_level(Vtl::One, &[0, 0]) == Vtl::One);
+}
+
+#[test]
+fn registers_have_their_numbers(rt: HostRuntime) {
+    assert!(rt; register_of(0x0004_0003) == Some(CallRegister::Kept(Name::Cr4)));
+    assert!(rt; register_of(0x000A_0014) == Some(CallRegister::EndOfMessage));
+    assert!(rt; register_of(0x000D_0002) == Some(CallRegister::CodePageOffsets));
+    assert!(rt; register_of(0x000D_0003) == Some(CallRegister::VpStatus));
+    assert!(rt; register_of(0x000D_0004) == Some(CallRegister::PartitionStatus));
+    assert!(rt; register_of(0x000D_0006) == Some(CallRegister::Capabilities));
+    assert!(rt; register_of(0x000D_0005).is_none());
+}
+
+/// Elements of a call of one element that get a register, by the caller and the level that it means, with their statuses.
+const GOT: [(Vtl, Vtl, u32, Option<HvStatus>); 8] = [
+    (Vtl::Zero, Vtl::Zero, 0x0002_0010, None),
+    (Vtl::Zero, Vtl::Zero, 0x0002_0011, None),
+    (Vtl::Zero, Vtl::Zero, 0x0002_0012, Some(HvStatus(0x0005))),
+    (Vtl::Zero, Vtl::Zero, 0x000D_0004, None),
+    (Vtl::Zero, Vtl::Zero, 0x000E_0000, Some(HvStatus(0x0006))),
+    (Vtl::One, Vtl::Zero, 0x000E_0001, Some(HvStatus(0x0005))),
+    (Vtl::One, Vtl::One, 0x000E_0002, None),
+    (Vtl::One, Vtl::One, 0x000A_0014, Some(HvStatus(0x0005))),
+];
+
+#[test]
+fn elements_that_get_a_register_are_judged(rt: HostRuntime) {
+    for (caller, target, number, status) in GOT {
+        assert_eq!(rt; get_refusal(caller, target, 1, number), status, "{number}");
+    }
+    let two = get_refusal(Vtl::Zero, Vtl::Zero, 2, 0x000D_0004);
+    assert_eq!(rt; two, Some(HvStatus(0x0005)));
+}
+
+/// Elements that set a register, by the caller and the level that it means, with their statuses.
+const SET: [(Vtl, Vtl, [u64; 4], Option<HvStatus>); 10] = [
+    (Vtl::Zero, Vtl::Zero, [0x0002_0000, 0, 7, 0], None),
+    (
+        Vtl::Zero,
+        Vtl::Zero,
+        [0x0002_0000, 0, 7, 1],
+        Some(HvStatus(0x0050)),
+    ),
+    (
+        Vtl::Zero,
+        Vtl::Zero,
+        [0x1_0002_0000, 0, 7, 0],
+        Some(HvStatus(0x0005)),
+    ),
+    (
+        Vtl::Zero,
+        Vtl::Zero,
+        [0x0002_0000, 1, 7, 0],
+        Some(HvStatus(0x0005)),
+    ),
+    (
+        Vtl::Zero,
+        Vtl::Zero,
+        [0x0002_0010, 0, 7, 0],
+        Some(HvStatus(0x0005)),
+    ),
+    (Vtl::One, Vtl::Zero, [0x0002_0010, 0, 7, 0], None),
+    (
+        Vtl::One,
+        Vtl::One,
+        [0x0002_0010, 0, 7, 0],
+        Some(HvStatus(0x0005)),
+    ),
+    (
+        Vtl::One,
+        Vtl::One,
+        [0x000D_0003, 0, 7, 0],
+        Some(HvStatus(0x0005)),
+    ),
+    (Vtl::One, Vtl::One, [0x0006_0001, 0, 7, 1 << 63], None),
+    (
+        Vtl::One,
+        Vtl::One,
+        [0x0004_0004, 0, 16, 0],
+        Some(HvStatus(0x0050)),
+    ),
+];
+
+#[test]
+fn elements_that_set_a_register_are_judged(rt: HostRuntime) {
+    for (caller, target, words, status) in SET {
+        let [first, second, third, fourth] = words;
+        let setting = Setting::of(first, second, third, fourth);
+        let refusal = set_refusal(caller, target, 1, &setting);
+        assert_eq!(rt; refusal, status, "{first}");
+    }
 }

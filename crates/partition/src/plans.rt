@@ -2,7 +2,7 @@
 ghost use Rattle.std.specs.Prelude.{◌≡◌, ◌≤◌, None, length};
 ghost use Rattle.vsm_core.specs.Calls.{first_failed};
 ghost use Rattle.vsm_core.specs.Partition.{enable_partition_checks};
-ghost use Rattle.vsm_core.specs.Served.{serve, serve_call, judged, enable_partition};
+ghost use Rattle.vsm_core.specs.Served.{serve, serve_call, judged, enable_partition, look as look_lem};
 ghost use Rattle.partition.specs.Plans.{Plans};
 
 use crate::checks::{
@@ -10,6 +10,7 @@ use crate::checks::{
 };
 use vsm_base::{HvStatus, VpIndex, Vtl};
 use vsm_core::{Entry, PartCall, PartitionState, Reply, Request};
+use vsm_status::PartitionStatus;
 
 /// A request that is under way: the one entry that it adds, by no step on the shared words, and its reply.
 #[derive(Clone, Copy, Debug)]
@@ -76,6 +77,22 @@ fn enable_vp(state: &mut PartitionState, by: VpIndex, level: Vtl, words: &[u64; 
     }
 }
 
+/// A register of the partition is read: its status.
+fn look(state: &PartitionState, by: VpIndex) -> Under
+    ensures { Plans state.now state.now result (look_lem state.now by) }
+{
+    let one_enabled = state.enabled;
+    Under {
+        entry: Entry::Look { by },
+        reply: Reply {
+            status: HvStatus::SUCCESS,
+            done: 1,
+            value: PartitionStatus { one_enabled }.bits(),
+            context: None,
+        },
+    }
+}
+
 /// What a request comes to in a state, which becomes the one that the request leaves.
 pub fn plan(state: &mut PartitionState, request: &Request) -> Under
     requires { length state.old.vps ≤ 8 }
@@ -85,6 +102,7 @@ pub fn plan(state: &mut PartitionState, request: &Request) -> Under
     match &request.call {
         PartCall::EnablePartition(words) => enable_partition(state, by, words),
         PartCall::EnableVp(words) => enable_vp(state, by, request.level, words),
+        PartCall::ReadStatus => look(state, by),
         _ => refused(by, HvStatus::INVALID_HYPERCALL_CODE),
     }
 }

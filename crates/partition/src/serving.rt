@@ -128,6 +128,9 @@ impl Partition {
     ///
     /// The caller gets its own context by the reply; the context of another processor waits for that one's start.
     ///
+    /// `PartCall::ReadStatus` reads VsmPartitionStatus: its status is `SUCCESS`, one element is done, and the value is that of
+    /// the register (TLFS, HV_REGISTER_VSM_PARTITION_STATUS). Nothing changes.
+    ///
     /// A call that isn't built yet is refused as one that there isn't, with `INVALID_HYPERCALL_CODE`. A refused request
     /// adds the entry of its refusal and changes nothing else. That, and the order of the causes, are this project's own.
     pub fn begin(&mut self, request: Request)

@@ -28,6 +28,8 @@ enum Asked {
     /// A processor at a level asks for level 1 on a processor, by these two words and a context that is all zero but
     /// for Cr3.
     Processor(u8, Vtl, u64, u64, u64),
+    /// Processor 1 reads the partition's status.
+    Status,
     /// Processor 0 asks for a flush.
     Flush,
 }
@@ -65,6 +67,11 @@ fn request(asked: &Asked) -> Request {
                 call: PartCall::EnableVp(words),
             }
         }
+        Asked::Status => Request {
+            by: VpIndex(1),
+            level: Vtl::Zero,
+            call: PartCall::ReadStatus,
+        },
         Asked::Flush => Request {
             by: VpIndex(0),
             level: Vtl::Zero,
@@ -249,5 +256,24 @@ fn a_refused_request_changes_nothing_but_the_journal(rt: HostRuntime) -> Result<
 #[test]
 fn a_call_that_is_not_built_is_refused(rt: HostRuntime) -> Result<(), Fail> {
     assert!(rt; has_status(rt.alloc(), 1, Asked::Flush, 0x0002)?);
+    Ok(())
+}
+
+#[test]
+fn the_status_tells_whether_level_1_is_enabled(rt: HostRuntime) -> Result<(), Fail> {
+    for (before, value) in [(0, 0x10001), (1, 0x10003)] {
+        let reply = Reply {
+            status: HvStatus(0),
+            done: 1,
+            value,
+            context: None,
+        };
+        let all = [ENABLE, Asked::Status];
+        let last = last_reply(rt.alloc(), &all[1 - before..])?;
+        assert!(rt; last == Some(reply));
+    }
+    let by = VpIndex(1);
+    let entries = [Entry::Look { by }, Entry::Enable { by: VpIndex(0) }];
+    assert!(rt; leaves(rt.alloc(), &[Asked::Status, ENABLE], &entries)?);
     Ok(())
 }

@@ -36,7 +36,8 @@ fn has_bits(bits: (u32, u32), value: u128) -> bool
     value % (1 << first) == 0 && (end == 128 || value < 1 << end)
 }
 
-/// Whether the register of this name may have this value.
+/// Whether the register of this name may have this value: none of its bits is set that must be zero, by the rules of
+/// [`Bank::put`](crate::Bank::put).
 pub fn is_legal(name: Name, value: u128) -> bool
     ensures legal { result ≡ is_legal name value }
     ensures below { IsTrue result → value < 2 ^ (bits_of name).1 }

@@ -10,6 +10,7 @@ mod shared_set;
 
 pub use bank::{BadValue, Bank};
 pub use context::Context;
+pub use legal::is_legal;
 pub use parts::{Segment, Table};
 pub use private_set::PrivateSet;
 

@@ -1,5 +1,5 @@
 -- The registers that a processor keeps: number, scope and spelling.
-use Rattle.std.specs.Prelude.{ℕ, Bool, true, false, List, [], ◌∷◌, codes, Option, find}
+use Rattle.std.specs.Prelude.{ℕ, ◌==◌, Bool, true, false, List, [], ◌∷◌, codes, Option, find}
 use Rattle.std.specs.Str.{bytes_eq}
 use Rattle.vsm_base.specs.declared.name.Name.{Name}
 use Rattle.vsm_base.specs.declared.name.Name.TheVariants as names
@@ -233,3 +233,7 @@ is_spelled word name = bytes_eq (spelling name) word
 -- the register that a word spells
 unfoldable pub named_by : List ℕ → Option Name
 named_by word = find (is_spelled word) all_names
+
+-- the register of a number
+unfoldable pub numbered : ℕ → Option Name
+numbered number = find (λ name. number_of name == number) all_names

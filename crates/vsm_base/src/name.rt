@@ -1,6 +1,6 @@
 // The registers that a processor keeps.
 ghost use Rattle.std.specs.Prelude.{◌≡◌, ◌≢◌, ◌==◌, find, IfSome, IfNone};
-ghost use Rattle.vsm_base.specs.Names.{number_of, is_shared, is_general, spelling, is_spelled, all_names, named_by};
+ghost use Rattle.vsm_base.specs.Names.{number_of, is_shared, is_general, spelling, is_spelled, all_names, named_by, numbered};
 ghost use Rattle.vsm_base.specs.declared.name.Name.{Name};
 
 /// A register that a virtual processor keeps, by its name (TLFS, HV_REGISTER_NAME; Intel SDM, volume 1, Basic
@@ -205,8 +205,9 @@ fn with_spelling(all: &[Name], word: &[u8]) -> Option<Name>
 
 impl Name {
     /// The register of this number: `None` exactly where no register that a processor keeps has it.
-    #[tactic(auto, unfolding(crate::specs::Names::all_names))]
+    #[tactic(auto, unfolding(crate::specs::Names::all_names, crate::specs::Names::numbered))]
     pub fn of(number: u32) -> Option<Name>
+        ensures found { result ≡ numbered number }
         ensures some { IfSome result (λ name. number_of name ≡ number) }
         ensures none { IfNone result ((name : Name) → number_of name ≢ number) }
     {

@@ -1,6 +1,8 @@
 -- How many steps an attempt has.
-use Rattle.std.proofs.Common.{◌≤◌, ◌+◌, ◌*◌, ◌/◌, ◌%◌, ◌^◌, ◌==◌, ◌&&◌, ℕ, zero, suc, Bool, true, false, cond, nat_lt, Option, Some, None, List, [], ◌∷◌, ◌++◌, length, IfSome, ◌≡◌, refl, ap, ◌∙◌, subst, arith}
-use Rattle.std.proofs.lemmas.List.{length-append}
+use Rattle.std.proofs.Common.{◌≤◌, ◌+◌, ◌-◌, ◌*◌, ◌/◌, ◌%◌, ◌^◌, ◌==◌, ◌&&◌, ℕ, zero, suc, Bool, true, false, cond, nat_lt, Option, Some, None, List, [], ◌∷◌, ◌++◌, length, take, drop, IfSome, ◌≡◌, refl, ap, ◌∙◌, subst, arith}
+use Rattle.std.proofs.lemmas.Bool.Decides.{nat_tests}
+use Rattle.std.proofs.lemmas.List.{length-append, take-append-le, drop-append-le}
+use Rattle.vsm_base.specs.declared.name.Name.{Name}
 use Rattle.vsm_base.specs.declared.name.Name.TheVariants as names
 use Rattle.vsm_base.specs.Masks.{allows}
 use Rattle.vsm_base.specs.declared.places.Access.{Access}
@@ -21,10 +23,14 @@ use Rattle.vsm_core.specs.declared.note.Note.{Note}
 use Rattle.vsm_core.specs.declared.operation.Op.{Op}
 use Rattle.vsm_core.specs.declared.operation.Op.TheVariants.{Set, Get, Load, Store, Exec, Spin, Hypercall, VtlCall, VtlReturn, Poll}
 use Rattle.vsm_core.specs.declared.operation.Op.TheVariants as ops
+use Rattle.vsm_core.specs.declared.request.Heard.{Heard}
 use Rattle.vsm_core.specs.declared.request.Reply.{Reply}
-use Rattle.vsm_core.specs.Tree.{Tree, Ends, Asks, Wants, WordStep, then_, asks_all, reads, after, follow, Counts}
+use Rattle.vsm_core.specs.Tree.{Tree, Ends, Asks, Wants, WordStep, then_, asks_all, reads, after, follow, by_reply, followed, Counts}
 use Rattle.vsm_core.specs.Calls.{Row, row_of, rows, code_in, is_fast}
-use Rattle.vsm_core.specs.Hypercalls.{input_value, input_address, fast_words, input_refusal}
+use Rattle.vsm_core.specs.Hypercalls.{input_value, input_address, output_address, has_output, fast_words, input_refusal, result_outcome}
+use Rattle.vsm_core.specs.RegisterCalls.{halves, value_words, got_words, is_look, slice_outcome, count_of, start_of, past_of, header_refusal, get_refusals, slice_end, set_by, slice_numbers, slice_output, got_slice}
+use Rattle.vsm_core.specs.Reps.{RepEnd, Refused as ByElement, GoesOn, Complete, slice_past, first_word, words_between, acting}
+use Rattle.vsm_core.specs.Targets.{target_level}
 use Rattle.vsm_core.specs.State.{State, gone_on, may_name, operand, privilege_of}
 use Rattle.vsm_core.specs.Fills.{Cached, Fill, Translation}
 use Rattle.vsm_core.specs.Walk.{Walked, Need, Mapped, Refused, walk}
@@ -32,9 +38,9 @@ use Rattle.vsm_core.specs.Access.{Goal, Decision, Grants, Denies, Faults, data_s
 use Rattle.vsm_core.specs.Switch.{may_call, may_return, may_enter, called, is_zero, assist_page, restored_from, by_call, by_interrupt}
 use Rattle.vsm_core.specs.Controllers.{Controllers, writes, rings, sint0_vector, message_steps, pending_steps, post_steps, eom_steps, message_page, has_none, is_open, eom_by}
 use Rattle.vsm_core.specs.Messages.{message_words, flagged, is_free}
-use Rattle.vsm_core.specs.Outcomes.{Origin, Outcome, Refusal, faulted, plain, outcome_at, loaded, passed, spun, note_of, held_outcome, denied_outcome, eom_outcome}
+use Rattle.vsm_core.specs.Outcomes.{Origin, Outcome, Refusal, faulted, plain, outcome_at, loaded, passed, spun, note_of, held_outcome, denied_outcome, hit_outcome, register_note, set_outcome, get_outcome, eom_outcome}
 use Rattle.vsm_core.specs.Registers.{is_legal, get as get_in}
-use Rattle.vsm_core.specs.Attempt.{attempt, by_access, begun, leaves, left_with, in_own_access, told_on, by_slot, posting, tells, refused, most_denied, most_steps, most_steps_of, goal_of, returns, is_wanted, wanted_outcome, unwanted_outcome, polled_on, sending, sends, eom_on, requests, left_for, reads_input, by_input_mask, behind_input_mask, by_memory, by_refusal, hypercall_tree}
+use Rattle.vsm_core.specs.Attempt.{attempt, by_access, begun, leaves, left_with, in_own_access, told_on, by_slot, posting, tells, refused, most_denied, most_steps, most_steps_of, goal_of, returns, is_wanted, wanted_outcome, unwanted_outcome, polled_on, sending, sends, eom_on, requests, left_for, hit_tells, hits_on, intercepted, is_write_hit, is_read_hit, set_tree, get_tree, by_page_mask, behind_page_mask, puts_out, looks, gets_by, by_input, reads_slice, reads_input, behind_output, by_memory, admitted, by_refusal, hypercall_tree}
 
 pub Counts-then_ : {A B : Type 0} (most : A → ℕ) (most_then : B → ℕ) (n : ℕ) (t : Tree A) (f : A → Tree B) → Counts most n t → ((m : ℕ) (a : A) → m ≤ most a → Counts most_then m (f a)) → Counts most_then n (then_ t f)
 Counts-then_ most most_then n (Ends a) f h g = g n a h
@@ -226,21 +232,99 @@ eom_on-counts from None waiting = omega arith
 eom_on-counts from (Some page) [] = omega arith
 eom_on-counts from (Some page) (note ∷ more) = λ a. λ b. λ word. sends-counts from word
 
--- registers are set and got with no step at all
+-- level 1 is told of a register: the slot is looked at, its message and its entry are written
+hit_tells-counts : (from : Origin) (note : Note) (slot : Option ℕ) → Counts most_steps 3 (hit_tells from note slot)
+hit_tells-counts from note slot =
+    let steps = posting from (message_page from.pages from.state) note slot in
+    let told = told_on (assist_page from.pages from.state) by_interrupt in
+    let a = posting-few from (message_page from.pages from.state) note slot in
+    let b = told_on-few (assist_page from.pages from.state) by_interrupt in
+    let l = length-append steps told in
+    asks_all-counts most_steps 3 (steps ++ told) (left_with (hit_outcome from note slot)) (λ x. omega (arith, a, b, l))
+
+hits_on-counts : (from : Origin) (note : Note) (page : Option ℕ) → Counts most_steps 0 (hits_on from note page)
+hits_on-counts from note None = told-counts (assist_page from.pages from.state) by_interrupt 0 (hit_outcome from note None) (omega arith)
+hits_on-counts from note (Some page) = λ a. λ b. λ word. hit_tells-counts from note (Some word)
+
+-- registers are set and got with no step at all, where level 1 doesn't intercept them
 set-counts : (b : Bool) (from : Origin) (state : State) (does : List Cached) → Counts most_steps 0 (Ends (cond b (outcome_at from Plain state does) (faulted from Gp)))
 set-counts b from state does = omega arith
 
 get-counts : (b : Bool) (from : Origin) (value : ℕ) (state : State) → Counts most_steps 0 (Ends (cond b (outcome_at from (Value value) state []) (faulted from Gp)))
 get-counts b from value state = omega arith
 
--- the calls that there are have headers of at most 240 bytes
-row_few : (code : ℕ) → IfSome (row_of code) (λ row. row.header ≤ 240)
+set_tree-counts : (from : Origin) (name : Name) (value : ℕ) → Counts most_steps 0 (set_tree from name value)
+set_tree-counts from name value =
+    Counts-cond most_steps 0 (is_write_hit from name value) (intercepted from (register_note from true name value)) (Ends (set_outcome from name value))
+    (hits_on-counts from (register_note from true name value) (message_page from.pages from.state)) (set-counts (may_name from.state name && is_legal name value) from _ _)
+
+get_tree-counts : (from : Origin) (name : Name) → Counts most_steps 0 (get_tree from name)
+get_tree-counts from name =
+    Counts-cond most_steps 0 (is_read_hit from name) (intercepted from (register_note from false name 0)) (Ends (get_outcome from name))
+    (hits_on-counts from (register_note from false name 0) (message_page from.pages from.state)) (get-counts (may_name from.state name) from _ _)
+
+-- the calls that there are
+abbrev pub partition_row : Row
+partition_row = record { code = 0x000D; is_rep = false; may_be_fast = true; header = 16; element = 0; output = 0 }
+
+abbrev pub level_row : Row
+level_row = record { code = 0x000F; is_rep = false; may_be_fast = false; header = 240; element = 0; output = 0 }
+
+abbrev pub get_row : Row
+get_row = record { code = 0x0050; is_rep = true; may_be_fast = false; header = 16; element = 4; output = 16 }
+
+abbrev pub set_row : Row
+set_row = record { code = 0x0051; is_rep = true; may_be_fast = false; header = 16; element = 32; output = 0 }
+
+one-row : (P : Row → Type 0) (b : Bool) (row : Row) (other : Option Row) → P row → IfSome other P → IfSome (cond b (Some row) other) P
+one-row P true row other h g = h
+one-row P false row other h g = g
+
+-- what holds of each of these holds of the call of any code
+pub each-row : (P : Row → Type 0) (code : ℕ) → P partition_row → P level_row → P get_row → P set_row → IfSome (row_of code) P
 unfolding row_of rows
-row_few code = two (0x000D == code) (0x000F == code) where
-  two : (b c : Bool) → IfSome {T = Row} (cond b (Some (record { code = 0x000D; is_rep = false; may_be_fast = true; header = 16; element = 0; output = 0 })) (cond c (Some (record { code = 0x000F; is_rep = false; may_be_fast = false; header = 240; element = 0; output = 0 })) None)) (λ row. row.header ≤ 240)
-  two true c = omega arith
-  two false true = omega arith
-  two false false = tt
+each-row P code partition level gets sets =
+    let fourth : Option Row = cond (0x0051 == code) (Some set_row) None in
+    let third : Option Row = cond (0x0050 == code) (Some get_row) fourth in
+    let second : Option Row = cond (0x000F == code) (Some level_row) third in
+    one-row P (0x000D == code) partition_row second partition (one-row P (0x000F == code) level_row third level (one-row P (0x0050 == code) get_row fourth gets (one-row P (0x0051 == code) set_row None sets tt)))
+
+-- a slice has at most eight elements, and none behind the last of the call
+pub past-few : (start count : ℕ) → slice_past start count ≤ start + 8
+past-few start count = few (nat_lt count (start + 8)) refl where
+  few : (b : Bool) → nat_lt count (start + 8) ≡ b → cond b count (start + 8) ≤ start + 8
+  few true e = grind (arith, nat_tests)
+  few false e = omega arith
+
+pub past-inside : (start count : ℕ) → slice_past start count ≤ count
+past-inside start count = few (nat_lt count (start + 8)) refl where
+  few : (b : Bool) → nat_lt count (start + 8) ≡ b → cond b count (start + 8) ≤ count
+  few true e = omega arith
+  few false e = grind (arith, nat_tests)
+
+-- what a call puts out for so many registers
+pub got-length : (state : State) (target : Vtl) (numbers : List ℕ) → length (got_words state target numbers) ≡ 2 * length numbers
+got-length state target [] = refl
+got-length state target (number ∷ numbers) = let e = got-length state target numbers in omega (arith, e)
+
+take-few : {A : Type 0} (n : ℕ) (xs : List A) → length (take n xs) ≤ n
+take-few zero xs = omega arith
+take-few (suc n) [] = omega arith
+take-few (suc n) (x ∷ xs) = let few = take-few n xs in omega (arith, few)
+
+take-within : {A : Type 0} (n : ℕ) (xs : List A) → length (take n xs) ≤ length xs
+take-within zero xs = omega arith
+take-within (suc n) [] = omega arith
+take-within (suc n) (x ∷ xs) = let few = take-within n xs in omega (arith, few)
+
+pub output-length : (from : Origin) (target : Vtl) (words : List ℕ) → length (slice_output from target (slice_numbers from words)) ≤ 2 * (past_of from - start_of from)
+output-length from target words =
+    let found : List ℕ = slice_numbers from words in
+    let count : ℕ = acting (get_refusals from target found) in
+    let a = got-length from.state target (take count found) in
+    let b = take-within count found in
+    let c = take-few (past_of from - start_of from) (drop (start_of from % 2) (halves words)) in
+    omega (arith, a, b, c)
 
 -- so many words are read, and then it goes on
 reads-counts : {A : Type 0} (most : A → ℕ) (n page index count : ℕ) (found : List ℕ) (rest : List ℕ → Tree A) → ((words : List ℕ) → Counts most (n + count) (rest words)) → Counts most n (reads page index count found rest)
@@ -248,37 +332,126 @@ reads-counts most n page index zero found rest h = subst (λ m. Counts most m (r
 reads-counts most n page index (suc count) found rest h =
     λ x. reads-counts most (suc n) page (suc index) count (found ++ x ∷ []) rest (λ words. subst (λ m. Counts most m (rest words)) (omega arith) (h words))
 
-requests-counts : (from : Origin) (code n : ℕ) (words : List ℕ) → n ≤ 34 → Counts most_steps n (requests from code words)
+requests-counts : (from : Origin) (code n : ℕ) (words : List ℕ) → n ≤ 38 → Counts most_steps n (requests from code words)
 requests-counts from code n words le = λ reply. le
 
-by_input_mask-counts : (from : Origin) (address generation mask n : ℕ) (rest : Tree Outcome) → n ≤ 11 → Counts most_steps n rest → Counts most_steps n (by_input_mask from address generation rest mask)
-by_input_mask-counts from address generation mask n rest le h =
-    let r : Refusal = record { page = address / 4096; mask = mask; generation = generation; access = Read; gpa = address } in
-    Counts-cond most_steps n (allows mask Read) rest (refused from None r []) h (refused-counts from None r [] n le)
+left_for-counts : (from : Origin) (code n : ℕ) (words : List ℕ) → n ≤ 37 → Counts most_steps n (left_for from code words)
+left_for-counts from code n words le = λ x. requests-counts from code (suc n) words (omega arith)
 
-behind_input_mask-counts : (level : Vtl) (from : Origin) (address generation : ℕ) (rest : Tree Outcome) → Counts most_steps 2 rest → Counts most_steps 3 rest → Counts most_steps 2 (behind_input_mask level from address generation rest)
-behind_input_mask-counts Zero from address generation rest h g = λ mask. by_input_mask-counts from address generation mask 3 rest (omega arith) g
-behind_input_mask-counts One from address generation rest h g = h
+by_page_mask-counts : (from : Origin) (kind : Access) (address generation mask n : ℕ) (rest : Tree Outcome) → n ≤ 11 → Counts most_steps n rest → Counts most_steps n (by_page_mask from kind address generation rest mask)
+by_page_mask-counts from kind address generation mask n rest le h =
+    let r : Refusal = record { page = address / 4096; mask = mask; generation = generation; access = kind; gpa = address } in
+    Counts-cond most_steps n (allows mask kind) rest (refused from None r []) h (refused-counts from None r [] n le)
 
-reads_input-counts : (from : Origin) (row : Row) (address n : ℕ) → row.header ≤ 240 → n ≤ 3 → Counts most_steps n (reads_input from row address)
-reads_input-counts from row address n few le =
-    reads-counts most_steps n (address / 4096) (address % 4096 / 8) (row.header / 8) [] (left_for from row.code) (λ words. λ x. requests-counts from row.code (suc (n + row.header / 8)) words (omega arith))
+-- a page's mask adds one step at most
+behind_page_mask-counts : (level : Vtl) (from : Origin) (kind : Access) (address generation n : ℕ) (rest : Tree Outcome) → n ≤ 10 → ((m : ℕ) → m ≤ suc n → Counts most_steps m rest) → Counts most_steps n (behind_page_mask level from kind address generation rest)
+behind_page_mask-counts Zero from kind address generation n rest le h = λ mask. by_page_mask-counts from kind address generation mask (suc n) rest (omega arith) (h (suc n) (omega arith))
+behind_page_mask-counts One from kind address generation n rest le h = h n (omega arith)
 
-by_memory-counts : (from : Origin) (row : Row) (address : ℕ) → row.header ≤ 240 → Counts most_steps 0 (by_memory from row address)
-by_memory-counts from row address few =
-    λ a. λ generation. behind_input_mask-counts from.state.active from address generation (reads_input from row address) (reads_input-counts from row address 2 few (omega arith)) (reads_input-counts from row address 3 few (omega arith))
+puts_out-counts : (from : Origin) (words : List ℕ) (o : Outcome) (n : ℕ) → n + length words + 1 ≤ most_steps o → Counts most_steps n (puts_out from words o)
+puts_out-counts from words o n le =
+    let page : ℕ = output_address from.state / 4096 in
+    let index : ℕ = output_address from.state % 4096 / 8 + 2 * start_of from in
+    let l = writes-length page index words in
+    asks_all-counts most_steps n (writes page index words) (left_with o) (λ x. omega (arith, l, le))
 
-by_refusal-counts : (from : Origin) (row : Option Row) (refusal : Option HvStatus) → IfSome row (λ r. r.header ≤ 240) → Counts most_steps 0 (by_refusal from row refusal)
-by_refusal-counts from row (Some status) few = omega arith
-by_refusal-counts from None None few = omega arith
-by_refusal-counts from (Some row) None few =
-    Counts-cond most_steps 0 (is_fast (input_value from.state)) (requests from row.code (fast_words from.state)) (by_memory from row (input_address from.state)) (requests-counts from row.code 0 (fast_words from.state) (omega arith)) (by_memory-counts from row (input_address from.state) few)
+looks-counts : (from : Origin) (n : ℕ) → n ≤ 7 → Counts most_steps n (looks from)
+looks-counts from n le = λ x. λ reply. λ a. λ generation.
+    let o : Outcome = result_outcome from from.state reply.status reply.done in
+    behind_page_mask-counts from.state.active from Write (output_address from.state) generation (suc (suc (suc n))) (puts_out from (value_words reply.value) o) (omega arith)
+    (λ m few. puts_out-counts from (value_words reply.value) o m (omega (arith, few, le)))
+
+-- a slice's end is the result of its call or a part of it
+slice-most : (from : Origin) (state : State) (does : List Cached) (end : RepEnd) → most_steps (slice_outcome from state does end) ≡ 38
+slice-most from state does (ByElement status done) = refl
+slice-most from state does (GoesOn next) = refl
+slice-most from state does (Complete done) = refl
+
+set_by-most : (from : Origin) (header words : List ℕ) (refusal : Option HvStatus) → most_steps (set_by from header words refusal) ≡ 38
+set_by-most from header words None = slice-most from _ _ _
+set_by-most from header words (Some status) = refl
+
+and-first : (a b : Bool) → (a && b) ≡ true → a ≡ true
+and-first true b e = refl
+and-first false b e = cc
+
+Counts-if : {A : Type 0} (most : A → ℕ) (n : ℕ) (b : Bool) (t u : Tree A) → (b ≡ true → Counts most n t) → Counts most n u → Counts most n (cond b t u)
+Counts-if most n true t u h g = h refl
+Counts-if most n false t u h g = g
+
+-- the words that hold the numbers of a slice: two in a word
+get_words-few : (start past : ℕ) → past ≤ start + 8 → words_between 4 start past ≤ 5
+get_words-few start past le = omega arith
+
+set_words-few : (start past : ℕ) → past ≤ start + 8 → words_between 32 start past ≤ 32
+set_words-few start past le = omega arith
+
+one_word : (start past count : ℕ) → past ≤ count → (count == 1) ≡ true → words_between 4 start past ≤ 1
+one_word start past count le e = let one : count ≡ 1 = grind (arith, nat_tests) in omega (arith, le, one)
+
+gets_by-counts : (from : Origin) (header words : List ℕ) (refusal : Option HvStatus) (n : ℕ) → n ≤ 6 + words_between 4 (start_of from) (past_of from) → Counts most_steps n (gets_by from header words refusal)
+gets_by-counts from header words (Some status) n le = let few = get_words-few (start_of from) (past_of from) (past-few (start_of from) (count_of from)) in λ x. omega (arith, few, le)
+gets_by-counts from header words None n le =
+    let target = target_level from.state.active header in
+    let found : List ℕ = slice_numbers from words in
+    let past = past-few (start_of from) (count_of from) in
+    let few = get_words-few (start_of from) (past_of from) past in
+    let long = output-length from target words in
+    let most = slice-most from from.state [] (slice_end from (get_refusals from target found)) in
+    Counts-if most_steps n (is_look (count_of from) found) (looks from) (puts_out from (slice_output from target found) (got_slice from target found))
+    (λ e.
+    let only = one_word (start_of from) (past_of from) (count_of from) (past-inside (start_of from) (count_of from)) (and-first (count_of from == 1) _ e) in
+    looks-counts from n (omega (arith, only, le)))
+    (puts_out-counts from (slice_output from target found) (got_slice from target found) n (omega (arith, past, few, long, most, le)))
+
+-- an output adds the step of its page's mask
+abbrev one_if : Bool → ℕ
+one_if true = 1
+one_if false = 0
+
+behind_output-counts : (b : Bool) (from : Origin) (generation n : ℕ) (rest : Tree Outcome) → n ≤ 10 → ((m : ℕ) → m ≤ n + one_if b → Counts most_steps m rest) → Counts most_steps n (cond b (behind_page_mask from.state.active from Write (output_address from.state) generation rest) rest)
+behind_output-counts true from generation n rest le h = behind_page_mask-counts from.state.active from Write (output_address from.state) generation n rest le (λ m few. h m (omega arith))
+behind_output-counts false from generation n rest le h = h n (omega arith)
+
+reads_input-counts : (from : Origin) (row : Row) (address n : ℕ) → ((header words : List ℕ) → Counts most_steps (n + row.header / 8 + words_between row.element (start_of from) (past_of from)) (by_input from row.code header words)) → Counts most_steps n (reads_input from row address)
+reads_input-counts from row address n h =
+    reads-counts most_steps n (address / 4096) (address % 4096 / 8) (row.header / 8) [] (reads_slice from row address) (λ header.
+    reads-counts most_steps (n + row.header / 8) (address / 4096) (address % 4096 / 8 + row.header / 8 + first_word row.element (start_of from)) (words_between row.element (start_of from) (past_of from)) [] (by_input from row.code header) (h header))
+
+by_memory-counts : (from : Origin) (row : Row) (address : ℕ)
+    → ((n : ℕ) (header words : List ℕ) → n ≤ 3 + one_if (has_output row) → Counts most_steps (n + row.header / 8 + words_between row.element (start_of from) (past_of from)) (by_input from row.code header words))
+    → Counts most_steps 0 (by_memory from row address)
+by_memory-counts from row address h = λ a. λ generation.
+    behind_page_mask-counts from.state.active from Read address generation 2 (behind_output from row generation (reads_input from row address)) (omega arith) (λ n le.
+    behind_output-counts (has_output row) from generation n (reads_input from row address) (omega arith) (λ m few. reads_input-counts from row address m (λ header words. h m header words (omega (arith, few, le)))))
+
+admitted-by : (from : Origin) (row : Row) → Counts most_steps 0 (by_memory from row (input_address from.state)) → Counts most_steps 0 (admitted from row)
+admitted-by from row h =
+    Counts-cond most_steps 0 (is_fast (input_value from.state)) (requests from row.code (fast_words from.state)) (by_memory from row (input_address from.state)) (requests-counts from row.code 0 (fast_words from.state) (omega arith)) h
+
+-- each of the calls that there are
+admitted-counts : (from : Origin) (code : ℕ) → IfSome (row_of code) (λ row. Counts most_steps 0 (admitted from row))
+admitted-counts from code =
+    let address = input_address from.state in
+    let past = past-few (start_of from) (count_of from) in
+    let few = set_words-few (start_of from) (past_of from) past in
+    each-row (λ row. Counts most_steps 0 (admitted from row)) code
+    (admitted-by from partition_row (by_memory-counts from partition_row address (λ n header words le. left_for-counts from 0x000D (n + 16 / 8 + words_between 0 (start_of from) (past_of from)) header (omega (arith, le)))))
+    (admitted-by from level_row (by_memory-counts from level_row address (λ n header words le. left_for-counts from 0x000F (n + 240 / 8 + words_between 0 (start_of from) (past_of from)) header (omega (arith, le)))))
+    (admitted-by from get_row (by_memory-counts from get_row address (λ n header words le. gets_by-counts from header words (header_refusal from header) (n + 16 / 8 + words_between 4 (start_of from) (past_of from)) (omega (arith, le)))))
+    (admitted-by from set_row (by_memory-counts from set_row address (λ n header words le. let most = set_by-most from header words (header_refusal from header) in λ x. omega (arith, le, few, most))))
+
+by_refusal-counts : (from : Origin) (row : Option Row) (refusal : Option HvStatus) → IfSome row (λ r. Counts most_steps 0 (admitted from r)) → Counts most_steps 0 (by_refusal from row refusal)
+by_refusal-counts from row (Some status) h = omega arith
+by_refusal-counts from None None h = omega arith
+by_refusal-counts from (Some row) None h = h
 
 hypercall-counts : (from : Origin) → Counts most_steps 0 (hypercall_tree from)
 hypercall-counts from =
     let value = input_value from.state in
     let row = row_of (code_in value) in
-    Counts-cond most_steps 0 (privilege_of from.state == 0) (by_refusal from row (input_refusal from.pages row value (input_address from.state))) (Ends (faulted from Undefined)) (by_refusal-counts from row (input_refusal from.pages row value (input_address from.state)) (row_few (code_in value))) (omega arith)
+    let refusal = input_refusal from.pages row value (input_address from.state) (output_address from.state) in
+    Counts-cond most_steps 0 (privilege_of from.state == 0) (by_refusal from row refusal) (Ends (faulted from Undefined)) (by_refusal-counts from row refusal (admitted-counts from (code_in value))) (omega arith)
 
 pub attempt-counts : (from : Origin) (op : Op) → Counts most_steps 0 (attempt from op)
 attempt-counts from Hypercall = hypercall-counts from
@@ -290,8 +463,8 @@ attempt-counts from VtlCall = Counts-cond most_steps 0 (may_call from.state) (in
 attempt-counts from VtlReturn = Counts-cond most_steps 0 (may_return from.state) (returns from (restored_from from.pages from.state)) (Ends (faulted from Undefined)) (returns-counts from (restored_from from.pages from.state)) (omega arith)
 attempt-counts from Poll = λ a. λ b. λ c. λ d. λ e. λ f. λ g. λ h. polled_on-counts from _
 attempt-counts from ops.Eom = Counts-cond most_steps 0 (is_zero from.state.active) (Ends (eom_outcome from None)) (eom_on from (message_page from.pages from.state) from.controllers.waiting) (let most = eom_outcome-most from None in omega (arith, most)) (eom_on-counts from (message_page from.pages from.state) from.controllers.waiting)
-attempt-counts from (Set name value) = set-counts (may_name from.state name && is_legal name value) from _ _
-attempt-counts from (Get name) = get-counts (may_name from.state name) from _ _
+attempt-counts from (Set name value) = set_tree-counts from name value
+attempt-counts from (Get name) = get_tree-counts from name
 attempt-counts from _ = omega arith
 
 follow-Ends : {A : Type 0} (a : A) (xs : List ℕ) → follow (Ends a) xs ≡ Ends a
@@ -303,9 +476,22 @@ pub follow-append : {A : Type 0} (t : Tree A) (xs : List ℕ) (x : ℕ) → foll
 follow-append t [] x = refl
 follow-append t (y ∷ ys) x = follow-append (after t y) ys x
 
+-- the same behind a reply that was had after no more answers than there are
+pub followed-append : {A : Type 0} (t : Tree A) (heard : Option Heard) (xs : List ℕ) (x : ℕ) → IfSome heard (λ h. h.after ≤ length xs) → followed t heard (xs ++ x ∷ []) ≡ after (followed t heard xs) x
+followed-append t None xs x le = follow-append t xs x
+followed-append t (Some h) xs x le =
+    let rest = by_reply (follow t (take h.after xs)) h.reply in
+    rw (take-append-le h.after xs (x ∷ []) le, drop-append-le h.after xs (x ∷ []) le) (follow-append rest (drop h.after xs) x)
+
 -- what still asks or has just ended has had as many answers as it has made steps
 pub Counts-asks : {A : Type 0} (most : A → ℕ) (n : ℕ) (s : WordStep) (k : ℕ → Tree A) (t : Tree A) (x : ℕ) → t ≡ Asks s k → Counts most n t → Counts most (suc n) (k x)
 Counts-asks most n s k t x e h = (rw e at h) x
+
+-- a reply is no step
+pub Counts-reply : {A : Type 0} (most : A → ℕ) (n : ℕ) (t : Tree A) (reply : Reply) → Counts most n t → Counts most n (by_reply t reply)
+Counts-reply most n (Ends a) reply h = h
+Counts-reply most n (Asks s k) reply h = h
+Counts-reply most n (Wants q k) reply h = h reply
 
 -- never more steps have been made than any end allows
 pub Counts-most : {A : Type 0} (most : A → ℕ) (b : ℕ) (reply : Reply) (n : ℕ) (t : Tree A) → ((a : A) → most a ≤ b) → Counts most n t → n ≤ b
@@ -313,12 +499,12 @@ Counts-most most b reply n (Ends a) le h = let l = le a in omega arith
 Counts-most most b reply n (Asks s k) le h = let l = Counts-most most b reply (suc n) (k 0) le (h 0) in omega arith
 Counts-most most b reply n (Wants q k) le h = Counts-most most b reply n (k reply) le (h reply)
 
-pub most_steps-few : (o : Outcome) → most_steps o ≤ 34
+pub most_steps-few : (o : Outcome) → most_steps o ≤ 38
 most_steps-few o = few o.what where
   few_denied : (posted : Posted) → most_denied posted ≤ 27
   few_denied Held = omega arith
   few_denied _ = omega arith
 
-  few : (what : What) → most_steps_of what ≤ 34
+  few : (what : What) → most_steps_of what ≤ 38
   few (Denied denial) = let le = few_denied denial.posted in omega arith
   few _ = omega arith

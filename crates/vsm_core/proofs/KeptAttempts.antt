@@ -1,11 +1,12 @@
--- Whatever is answered, an attempt keeps the registers that are the other level's own, unless it enables level 1.
-use Rattle.std.proofs.Common.{◌≡◌, ◌∙◌, ◌/◌, ◌%◌, ◌==◌, ◌&&◌, ◌++◌, ℕ, Bool, true, false, not, cond, Option, Some, None, List, [], ◌∷◌, fold, refl, sym, ap, subst, slice_set}
+-- Whatever is answered, an attempt keeps the registers that are the other level's own, unless it enables level 1 or is level 1's call that sets registers.
+use Rattle.std.proofs.Common.{◌≡◌, ◌≢◌, ◌∙◌, ◌+◌, ◌*◌, ◌/◌, ◌%◌, ◌==◌, ◌&&◌, ◌++◌, ℕ, Bool, true, false, not, cond, Option, Some, None, List, [], ◌∷◌, find, take, refl, sym, ap, subst, arith, slice_set}
+use Rattle.std.proofs.lemmas.Bool.Decides.{nat_tests}
 use Rattle.vsm_base.specs.Masks.{allows}
 use Rattle.vsm_base.specs.Names.{is_shared}
 use Rattle.vsm_base.specs.declared.name.Name.{Name}
 use Rattle.vsm_base.specs.declared.name.Name.TheVariants as names
+use Rattle.vsm_base.specs.declared.places.Access.{Access}
 use Rattle.vsm_base.specs.declared.places.Access.TheVariants.{Read, Write, Execute}
-use Rattle.vsm_base.specs.declared.places.Limits.{Limits}
 use Rattle.vsm_base.specs.declared.places.Vtl.{Vtl}
 use Rattle.vsm_base.specs.declared.places.Vtl.TheVariants.{Zero, One}
 use Rattle.vsm_base.specs.declared.status.HvStatus.{HvStatus}
@@ -18,30 +19,38 @@ use Rattle.vsm_core.specs.declared.mark.GuestFault.{GuestFault}
 use Rattle.vsm_core.specs.declared.mark.GuestFault.TheVariants.{Undefined, Gp}
 use Rattle.vsm_core.specs.declared.mark.What.{What}
 use Rattle.vsm_core.specs.declared.mark.What.TheVariants as whats
-use Rattle.vsm_core.specs.declared.mark.What.TheVariants.{Again, Value, Plain}
+use Rattle.vsm_core.specs.declared.mark.What.TheVariants.{Again, Value, Plain, Part}
 use Rattle.vsm_core.specs.declared.note.Note.{Note}
 use Rattle.vsm_core.specs.declared.operation.Op.{Op}
 use Rattle.vsm_core.specs.declared.operation.Op.TheVariants.{Set, Get, Load, Store, Exec, Spin, Jump, JumpNe, Hypercall, VtlCall, VtlReturn, Poll, Ack, Eoi}
 use Rattle.vsm_core.specs.declared.operation.Op.TheVariants as ops
 use Rattle.vsm_core.specs.declared.operation.Program.{Program}
 use Rattle.vsm_core.specs.declared.partition_state.PartitionState.{PartitionState}
+use Rattle.vsm_core.specs.declared.register.CallRegister.{CallRegister}
+use Rattle.vsm_core.specs.declared.register.CallRegister.TheVariants.{Kept}
+use Rattle.vsm_core.specs.declared.request.Reply.{Reply}
 use Rattle.vsm_core.specs.Access.{Goal, Decision, Grants, Denies, Faults, access, start_fault}
-use Rattle.vsm_core.specs.Attempt.{attempt, begun, leaves, left_with, in_own_access, told_on, by_slot, posting, tells, refused, goal_of, returns, is_wanted, wanted_outcome, unwanted_outcome, polled_on, sending, sends, eom_on, requests, left_for, reads_input, behind_input_mask, by_memory, by_refusal, hypercall_tree}
-use Rattle.vsm_core.specs.Calls.{Row, row_of, code_in, is_fast, result_value}
+use Rattle.vsm_core.specs.Attempt.{attempt, begun, leaves, left_with, in_own_access, told_on, by_slot, posting, tells, refused, hit_tells, hits_on, intercepted, is_write_hit, is_read_hit, set_tree, get_tree, goal_of, returns, is_wanted, wanted_outcome, unwanted_outcome, polled_on, sending, sends, eom_on, behind_page_mask, requests, left_for, puts_out, looked_by, looks, gets_from, gets_by, by_input, reads_slice, reads_input, behind_output, by_memory, admitted, by_refusal, hypercall_tree}
+use Rattle.vsm_core.specs.Calls.{Row, rows, row_of, code_in, is_fast, result_value}
 use Rattle.vsm_core.specs.Contexts.{enabled_by, has_level, is_legal_context, values_of, with_context}
-use Rattle.vsm_core.specs.Controllers.{Controllers, message_page, eom_by, waiting_then}
+use Rattle.vsm_core.specs.Controllers.{Controllers, message_page, writes, eom_by, waiting_then}
 use Rattle.vsm_core.specs.Fills.{Cached}
-use Rattle.vsm_core.specs.Hypercalls.{input_value, input_address, fast_words, input_refusal, own_context, result_outcome, with_result}
-use Rattle.vsm_core.specs.Keeps.{EndsIn, KeepsOther, other_level, after_attempts, IsAway}
-use Rattle.vsm_core.specs.Outcomes.{Origin, Outcome, Refusal, faulted, plain, outcome_at, fills, loaded, passed, spun, empties, note_of, held_outcome, denied_outcome, next_vector, vector_or_zero, eom_outcome}
-use Rattle.vsm_core.specs.Processor.{Vp, attempted, came_to, did_at, marked_or_ended, operation_at, origin_of, saw, settled, tree_of}
+use Rattle.vsm_core.specs.Hypercalls.{input_value, input_address, output_address, has_output, fast_words, input_refusal, own_context, result_outcome, with_result}
+use Rattle.vsm_core.specs.Keeps.{EndsIn, KeepsOther, SetsNone, other_level, after_attempts, IsAway}
+use Rattle.vsm_core.specs.Outcomes.{Origin, Outcome, Refusal, faulted, plain, outcome_at, fills, loaded, passed, spun, set_outcome, get_outcome, empties, note_of, register_note, held_outcome, denied_outcome, hit_outcome, next_vector, vector_or_zero, eom_outcome}
+use Rattle.vsm_core.specs.Processor.{Vp, answered, asking, attempted, came_to, does_all, marked_or_ended, operation_at, origin_of, saw, settled, tree_of}
+use Rattle.vsm_core.specs.RegisterCalls.{Setting, all_emptied, all_set, count_of, get_refusals, got_slice, header_refusal, is_look, past_of, put_at, register_checks, register_of, set_by, set_named, set_one, set_refusals, set_registers, settings, slice_end, slice_numbers, slice_outcome, slice_output, start_of, value_words}
 use Rattle.vsm_core.specs.Registers.{Registers, is_legal, private_of, private_place, put as put_in, shared_place, with_private}
-use Rattle.vsm_core.specs.Served.{answer}
+use Rattle.vsm_core.specs.Reps.{RepEnd, Refused, GoesOn, Complete, acting, first_word, with_start, words_between}
+use Rattle.vsm_core.specs.Served.{after, answer}
 use Rattle.vsm_core.specs.State.{State, get, put, put_legal, gone_to, gone_on, may_name, operand, privilege_of, word_of}
+use Rattle.vsm_core.specs.Steps.{made}
 use Rattle.vsm_core.specs.Switch.{assist_page, by_call, by_interrupt, called, entered, is_zero, may_call, may_enter, may_return, restored_from, returned, with_active, with_pair}
-use Rattle.vsm_core.specs.Tree.{Tree, Ends, Asks, Wants}
-use Rattle.vsm_core.specs.Whole.{Flat, answer_in, flat_after, run_on}
-use Rattle.vsm_core.proofs.KeptLevels.{EndsIn-then_, EndsIn-cond, EndsIn-asks_all, EndsIn-reads, Q-cond, Stays, same-stays, stays-then, put_legal-stays, gone_to-stays, gone_on-stays, put-then-on, legal-then-on, keeps-so, keeps-same}
+use Rattle.vsm_core.specs.Targets.{is_above, target_level}
+use Rattle.vsm_core.specs.Tree.{Tree, Ends, Asks, Wants, WordStep}
+use Rattle.vsm_core.specs.Whole.{Flat, answer_in, flat_after}
+use Rattle.vsm_core.proofs.Checks.{NoneFails, none-fails}
+use Rattle.vsm_core.proofs.KeptLevels.{EndsIn-then_, EndsIn-cond, EndsIn-asks_all, EndsIn-reads, EndsIn-by_slot, Q-cond, Stays, same-stays, stays-then, put-stays, put_legal-stays, gone_to-stays, gone_on-stays, put-then-on, legal-then-on, keeps-so, keeps-same}
 
 abbrev Keeps : State → Outcome → Type 0
 Keeps s o = KeepsOther s o.state
@@ -64,14 +73,10 @@ tells-so : (from : Origin) (r : Refusal) (note : Note) (does : List Cached) (slo
 tells-so from r note does slot =
     EndsIn-asks_all (Keeps from.state) (posting from (message_page from.pages from.state) note slot ++ told_on (assist_page from.pages from.state) by_interrupt) (left_with (denied_outcome from r note slot does)) (λ x. denied-so from r note slot does)
 
-by_slot-so : (s : State) (page : Option ℕ) (more : Option ℕ → Tree Outcome) → ((slot : Option ℕ) → EndsIn (Keeps s) (more slot)) → EndsIn (Keeps s) (by_slot page more)
-by_slot-so s None more h = h None
-by_slot-so s (Some page) more h = λ word. h (Some word)
-
 refused-so : (from : Origin) (gva : Option ℕ) (r : Refusal) (does : List Cached) → EndsIn (Keeps from.state) (refused from gva r does)
 refused-so from gva r does =
     EndsIn-cond (Keeps from.state) (may_enter from.state) (by_slot (message_page from.pages from.state) (tells from r (note_of from gva r) does)) (left_with (held_outcome from r does))
-    (by_slot-so from.state (message_page from.pages from.state) (tells from r (note_of from gva r) does) (tells-so from r (note_of from gva r) does)) (λ x. keeps-same from.state)
+    (EndsIn-by_slot (Keeps from.state) (message_page from.pages from.state) (tells from r (note_of from gva r) does) (tells-so from r (note_of from gva r) does)) (λ x. keeps-same from.state)
 
 leaves-so : (from : Origin) (gva : ℕ) (granted : Grant → What × State) → ((grant : Grant) → Stays from.state (granted grant).1) → (d : Decision) → EndsIn (Keeps from.state) (leaves from gva granted d)
 leaves-so from gva granted h (Grants grant fill) = λ x. at-so from (granted grant).0 (granted grant).1 (fills from.state.active fill) (h grant)
@@ -167,74 +172,199 @@ context-so s (Some context) value =
 requests-so : (from : Origin) (code : ℕ) (words : List ℕ) → EndsIn (Keeps from.state) (requests from code words)
 requests-so from code words = λ reply. context-so from.state (own_context reply.context) (result_value reply.status reply.done)
 
-input-so : (level : Vtl) (from : Origin) (address generation : ℕ) (rest : Tree Outcome) → EndsIn (Keeps from.state) rest → EndsIn (Keeps from.state) (behind_input_mask level from address generation rest)
-input-so Zero from address generation rest h = λ mask.
-    let r : Refusal = record { page = address / 4096; mask = mask; generation = generation; access = Read; gpa = address } in
-    EndsIn-cond (Keeps from.state) (allows mask Read) rest (refused from None r []) h (refused-so from None r [])
-input-so One from address generation rest h = h
+page-so : (level : Vtl) (from : Origin) (kind : Access) (address generation : ℕ) (rest : Tree Outcome) → EndsIn (Keeps from.state) rest → EndsIn (Keeps from.state) (behind_page_mask level from kind address generation rest)
+page-so Zero from kind address generation rest h = λ mask.
+    let r : Refusal = record { page = address / 4096; mask = mask; generation = generation; access = kind; gpa = address } in
+    EndsIn-cond (Keeps from.state) (allows mask kind) rest (refused from None r []) h (refused-so from None r [])
+page-so One from kind address generation rest h = h
 
-by_memory-so : (from : Origin) (row : Row) (address : ℕ) → EndsIn (Keeps from.state) (by_memory from row address)
-by_memory-so from row address = λ a. λ generation.
-    input-so from.state.active from address generation (reads_input from row address)
-    (EndsIn-reads (Keeps from.state) (address / 4096) (address % 4096 / 8) (row.header / 8) [] (left_for from row.code) (λ words. λ x. requests-so from row.code words))
+-- what a slice comes to
+slice-so : (from : Origin) (state : State) (does : List Cached) (end : RepEnd) → Stays from.state state → Keeps from.state (slice_outcome from state does end)
+slice-so from state does (Refused status done) h = keeps-so from.state _ (stays-then from.state state _ h (with_result-stays (result_value status done) state))
+slice-so from state does (GoesOn next) h = keeps-so from.state _ (stays-then from.state state _ h (put_legal-stays state names.Rcx (with_start (input_value from.state) next)))
+slice-so from state does (Complete done) h = keeps-so from.state _ (stays-then from.state state _ h (with_result-stays (result_value _ done) state))
 
-by_refusal-so : (from : Origin) (row : Option Row) (refusal : Option HvStatus) → EndsIn (Keeps from.state) (by_refusal from row refusal)
-by_refusal-so from row (Some status) = result-so from from.state status 0 (same-stays from.state)
-by_refusal-so from None None = faulted-so from Undefined
-by_refusal-so from (Some row) None =
-    EndsIn-cond (Keeps from.state) (is_fast (input_value from.state)) (requests from row.code (fast_words from.state)) (by_memory from row (input_address from.state)) (requests-so from row.code (fast_words from.state)) (by_memory-so from row (input_address from.state))
+-- a call that gets registers changes none of them
+puts_out-so : (from : Origin) (words : List ℕ) (o : Outcome) → Keeps from.state o → EndsIn (Keeps from.state) (puts_out from words o)
+puts_out-so from words o h =
+    EndsIn-asks_all (Keeps from.state) (writes (output_address from.state / 4096) (output_address from.state % 4096 / 8 + 2 * start_of from) words) (left_with o) (λ x. h)
 
-hypercall-so : (from : Origin) → EndsIn (Keeps from.state) (hypercall_tree from)
-hypercall-so from =
+looked_by-so : (from : Origin) (reply : Reply) → EndsIn (Keeps from.state) (looked_by from reply)
+looked_by-so from reply = λ a. λ generation.
+    let o = result_outcome from from.state reply.status reply.done in
+    page-so from.state.active from Write (output_address from.state) generation (puts_out from (value_words reply.value) o) (puts_out-so from (value_words reply.value) o (result-so from from.state reply.status reply.done (same-stays from.state)))
+
+gets_from-so : (from : Origin) (target : Vtl) (numbers : List ℕ) → EndsIn (Keeps from.state) (gets_from from target numbers)
+gets_from-so from target numbers =
+    EndsIn-cond (Keeps from.state) (is_look (count_of from) numbers) (looks from) (puts_out from (slice_output from target numbers) (got_slice from target numbers))
+    (λ x. looked_by-so from) (puts_out-so from (slice_output from target numbers) (got_slice from target numbers) (slice-so from from.state [] (slice_end from (get_refusals from target numbers)) (same-stays from.state)))
+
+gets_by-so : (from : Origin) (header words : List ℕ) (refusal : Option HvStatus) → EndsIn (Keeps from.state) (gets_by from header words refusal)
+gets_by-so from header words None = gets_from-so from (target_level from.state.active header) (slice_numbers from words)
+gets_by-so from header words (Some status) = λ x. result-so from from.state status (start_of from) (same-stays from.state)
+
+-- a call that sets registers of its own level
+named-stays : (s : State) (target : Vtl) (register : Option CallRegister) (value : ℕ) → s.active ≡ target → Stays s (set_named s target register value)
+named-stays s target (Some (Kept name)) value own = subst (λ l. Stays s (put_at s l name value)) own (put-stays s name value)
+named-stays s target _ value own = same-stays s
+
+one-stays : (s : State) (target : Vtl) (setting : Setting) → s.active ≡ target → Stays s (set_one target s setting)
+one-stays s target setting own = named-stays s target (register_of setting.number) setting.value own
+
+all-stays : (s : State) (target : Vtl) (settings : List Setting) → s.active ≡ target → Stays s (all_set target s settings)
+all-stays s target [] own = same-stays s
+all-stays s target (setting ∷ settings) own =
+    let h = one-stays s target setting own in
+    stays-then s (set_one target s setting) _ h (all-stays (set_one target s setting) target settings (h.active ∙ own))
+
+set_by-so : (from : Origin) (header words : List ℕ) (refusal : Option HvStatus) → (refusal ≡ None → from.state.active ≡ target_level from.state.active header) → Keeps from.state (set_by from header words refusal)
+set_by-so from header words None own =
+    let target = target_level from.state.active header in
+    let refusals = set_refusals from target (settings words) in
+    let acted = take (acting refusals) (settings words) in
+    slice-so from (all_set target from.state acted) (all_emptied target acted) (slice_end from refusals) (all-stays from.state target acted (own refl))
+set_by-so from header words (Some status) own = result-so from from.state status (start_of from) (same-stays from.state)
+
+-- a call of level 0 names no level above it
+below-zero : (level : Vtl) → is_above level Zero ≡ false → Zero ≡ level
+below-zero Zero e = refl
+below-zero One e = cc
+
+zero-own : (vps by : ℕ) (header : List ℕ) → NoneFails (register_checks vps by Zero header) → Zero ≡ target_level Zero header
+zero-own vps by header none = below-zero (target_level Zero header) none.1.1.1.1.0
+
+header-own : (from : Origin) (level : Vtl) (header : List ℕ) → level ≡ Zero → NoneFails (register_checks from.vps from.number level header) → level ≡ target_level level header
+header-own from Zero header zero none = zero-own from.vps from.number header none
+header-own from One header zero none = cc
+
+set-registers-so : (from : Origin) (header words : List ℕ) → from.state.active ≡ Zero → Keeps from.state (set_registers from header words)
+set-registers-so from header words zero =
+    set_by-so from header words (header_refusal from header) (λ e. header-own from from.state.active header zero (none-fails (register_checks from.vps from.number from.state.active header) e))
+
+-- a call by this code sets no registers of level 0 by level 1
+abbrev Spares : State → ℕ → Type 0
+Spares s code = s.active ≡ One → code ≢ 0x0051
+
+is-zero : (level : Vtl) (code : ℕ) → (level ≡ One → code ≢ 0x0051) → code == 0x0051 ≡ true → level ≡ Zero
+is-zero Zero code spares e = refl
+is-zero One code spares e = absurd (spares refl (grind (arith, nat_tests)))
+
+-- where the test is met is known
+EndsIn-if : (Q : Outcome → Type 0) (b : Bool) (t u : Tree Outcome) → (b ≡ true → EndsIn Q t) → EndsIn Q u → EndsIn Q (cond b t u)
+EndsIn-if Q true t u h g = h refl
+EndsIn-if Q false t u h g = g
+
+input-so : (from : Origin) (code : ℕ) (header words : List ℕ) → Spares from.state code → EndsIn (Keeps from.state) (by_input from code header words)
+input-so from code header words spares =
+    let set : Tree Outcome = left_with (set_registers from header words) in
+    EndsIn-cond (Keeps from.state) (code == 0x0050) (gets_by from header words (header_refusal from header)) (cond (code == 0x0051) set (left_for from code header)) (gets_by-so from header words (header_refusal from header))
+    (EndsIn-if (Keeps from.state) (code == 0x0051) set (left_for from code header) (λ e. λ x. set-registers-so from header words (is-zero from.state.active code spares e)) (λ x. requests-so from code header))
+
+reads_slice-so : (from : Origin) (row : Row) (address : ℕ) (header : List ℕ) → Spares from.state row.code → EndsIn (Keeps from.state) (reads_slice from row address header)
+reads_slice-so from row address header spares =
+    EndsIn-reads (Keeps from.state) (address / 4096) (address % 4096 / 8 + row.header / 8 + first_word row.element (start_of from)) (words_between row.element (start_of from) (past_of from)) [] (by_input from row.code header)
+    (λ words. input-so from row.code header words spares)
+
+reads_input-so : (from : Origin) (row : Row) (address : ℕ) → Spares from.state row.code → EndsIn (Keeps from.state) (reads_input from row address)
+reads_input-so from row address spares =
+    EndsIn-reads (Keeps from.state) (address / 4096) (address % 4096 / 8) (row.header / 8) [] (reads_slice from row address) (λ header. reads_slice-so from row address header spares)
+
+output-so : (from : Origin) (row : Row) (generation : ℕ) (rest : Tree Outcome) → EndsIn (Keeps from.state) rest → EndsIn (Keeps from.state) (behind_output from row generation rest)
+output-so from row generation rest h =
+    EndsIn-cond (Keeps from.state) (has_output row) (behind_page_mask from.state.active from Write (output_address from.state) generation rest) rest (page-so from.state.active from Write (output_address from.state) generation rest h) h
+
+by_memory-so : (from : Origin) (row : Row) (address : ℕ) → Spares from.state row.code → EndsIn (Keeps from.state) (by_memory from row address)
+by_memory-so from row address spares = λ a. λ generation.
+    let input = reads_input from row address in
+    page-so from.state.active from Read address generation (behind_output from row generation input) (output-so from row generation input (reads_input-so from row address spares))
+
+admitted-so : (from : Origin) (row : Row) → Spares from.state row.code → EndsIn (Keeps from.state) (admitted from row)
+admitted-so from row spares =
+    EndsIn-cond (Keeps from.state) (is_fast (input_value from.state)) (requests from row.code (fast_words from.state)) (by_memory from row (input_address from.state)) (requests-so from row.code (fast_words from.state)) (by_memory-so from row (input_address from.state) spares)
+
+by_refusal-so : (from : Origin) (row : Option Row) (refusal : Option HvStatus) → ((r : Row) → row ≡ Some r → Spares from.state r.code) → EndsIn (Keeps from.state) (by_refusal from row refusal)
+by_refusal-so from row (Some status) spares = result-so from from.state status 0 (same-stays from.state)
+by_refusal-so from None None spares = faulted-so from Undefined
+by_refusal-so from (Some row) None spares = admitted-so from row (spares row refl)
+
+-- the call of a code has that code
+found-code : (b : Bool) (code : ℕ) (r row : Row) (other : Option Row) → (b ≡ true → r.code ≡ code) → (other ≡ Some row → row.code ≡ code) → cond b (Some r) other ≡ Some row → row.code ≡ code
+found-code true code r row other h g e = let same : r ≡ row = cc in rw (← same) (h refl)
+found-code false code r row other h g e = g e
+
+code-among : (list : List Row) (code : ℕ) (row : Row) → find (λ (r : Row). r.code == code) list ≡ Some row → row.code ≡ code
+code-among [] code row e = cc
+code-among (r ∷ list) code row e = found-code (r.code == code) code r row (find (λ (r : Row). r.code == code) list) (λ t. grind (arith, nat_tests)) (code-among list code row) e
+
+row-code : (code : ℕ) (row : Row) → row_of code ≡ Some row → row.code ≡ code
+unfolding row_of
+row-code code row e = code-among rows code row e
+
+hypercall-so : (from : Origin) → Spares from.state (code_in (input_value from.state)) → EndsIn (Keeps from.state) (hypercall_tree from)
+hypercall-so from spares =
     let value = input_value from.state in
     let row = row_of (code_in value) in
-    EndsIn-cond (Keeps from.state) (privilege_of from.state == 0) (by_refusal from row (input_refusal from.pages row value (input_address from.state))) (Ends (faulted from Undefined)) (by_refusal-so from row (input_refusal from.pages row value (input_address from.state))) (faulted-so from Undefined)
+    let refusal = input_refusal from.pages row value (input_address from.state) (output_address from.state) in
+    EndsIn-cond (Keeps from.state) (privilege_of from.state == 0) (by_refusal from row refusal) (Ends (faulted from Undefined))
+    (by_refusal-so from row refusal (λ r is one. rw (row-code (code_in value) r is) (spares one))) (faulted-so from Undefined)
 
-set-so : (b : Bool) (from : Origin) (name : Name) (value : ℕ) (does : List Cached) → Keeps from.state (cond b (outcome_at from Plain (gone_on (put from.state name value)) does) (faulted from Gp))
-set-so b from name value does =
+-- level 1 is told of a register that it intercepts
+hit_tells-so : (from : Origin) (note : Note) (slot : Option ℕ) → EndsIn (Keeps from.state) (hit_tells from note slot)
+hit_tells-so from note slot =
+    EndsIn-asks_all (Keeps from.state) (posting from (message_page from.pages from.state) note slot ++ told_on (assist_page from.pages from.state) by_interrupt) (left_with (hit_outcome from note slot)) (λ x. λ e. refl)
+
+hits_on-so : (from : Origin) (note : Note) (page : Option ℕ) → EndsIn (Keeps from.state) (hits_on from note page)
+hits_on-so from note None = own-so (assist_page from.pages from.state) by_interrupt (hit_outcome from note None) from.state (λ e. refl)
+hits_on-so from note (Some page) = λ a. λ b. λ word. hit_tells-so from note (Some word)
+
+set-outcome-so : (b : Bool) (from : Origin) (name : Name) (value : ℕ) (does : List Cached) → Keeps from.state (cond b (outcome_at from Plain (gone_on (put from.state name value)) does) (faulted from Gp))
+set-outcome-so b from name value does =
     Q-cond (Keeps from.state) b (outcome_at from Plain (gone_on (put from.state name value)) does) (faulted from Gp) (at-so from Plain _ does (put-then-on from.state name value)) (faulted-so from Gp)
 
-get-so : (b : Bool) (from : Origin) (value : ℕ) → Keeps from.state (cond b (outcome_at from (Value value) (gone_on from.state) []) (faulted from Gp))
-get-so b from value =
+set-so : (from : Origin) (name : Name) (value : ℕ) → EndsIn (Keeps from.state) (set_tree from name value)
+set-so from name value =
+    let note = register_note from true name value in
+    EndsIn-cond (Keeps from.state) (is_write_hit from name value) (intercepted from note) (Ends (set_outcome from name value)) (hits_on-so from note (message_page from.pages from.state))
+    (set-outcome-so (may_name from.state name && is_legal name value) from name value (empties from.state.active name))
+
+get-outcome-so : (b : Bool) (from : Origin) (value : ℕ) → Keeps from.state (cond b (outcome_at from (Value value) (gone_on from.state) []) (faulted from Gp))
+get-outcome-so b from value =
     Q-cond (Keeps from.state) b (outcome_at from (Value value) (gone_on from.state) []) (faulted from Gp) (at-so from (Value value) _ [] (gone_on-stays from.state)) (faulted-so from Gp)
+
+get-so : (from : Origin) (name : Name) → EndsIn (Keeps from.state) (get_tree from name)
+get-so from name =
+    let note = register_note from false name 0 in
+    EndsIn-cond (Keeps from.state) (is_read_hit from name) (intercepted from note) (Ends (get_outcome from name)) (hits_on-so from note (message_page from.pages from.state))
+    (get-outcome-so (may_name from.state name) from (get from.state name))
 
 jumped-stays : (b : Bool) (s : State) (rip : ℕ) → Stays s (cond b (gone_on s) (gone_to s rip))
 jumped-stays b s rip = Q-cond (Stays s) b (gone_on s) (gone_to s rip) (gone_on-stays s) (gone_to-stays s rip)
 
-pub attempt-keeps : (from : Origin) (op : Op) → EndsIn (λ (o : Outcome). KeepsOther from.state o.state) (attempt from op)
-attempt-keeps from (Set name value) = set-so (may_name from.state name && is_legal name value) from name value (empties from.state.active name)
-attempt-keeps from (Get name) = get-so (may_name from.state name) from (get from.state name)
-attempt-keeps from (Load name gva) = let goal = goal_of from.pages from.state Read true gva.0 0 in begun-so from (loaded from.state name) goal (start_fault goal) (λ grant. legal-then-on from.state name grant.value)
-attempt-keeps from (Store gva what) = let goal = goal_of from.pages from.state Write true gva.0 (operand from.state what) in begun-so from (passed from.state) goal (start_fault goal) (λ grant. gone_on-stays from.state)
-attempt-keeps from (Exec gva) = let goal = goal_of from.pages from.state Execute false gva.0 0 in begun-so from (passed from.state) goal (start_fault goal) (λ grant. gone_on-stays from.state)
-attempt-keeps from (Spin gva value) = let goal = goal_of from.pages from.state Read true gva.0 0 in begun-so from (spun from.state value) goal (start_fault goal) (λ grant. spun-stays (grant.value == value) from.state (gone_on from.state) grant (gone_on-stays from.state))
-attempt-keeps from (Jump rip) = keeps-so from.state _ (gone_to-stays from.state rip)
-attempt-keeps from (JumpNe name value rip) = keeps-so from.state _ (jumped-stays (word_of from.state name == value) from.state rip)
-attempt-keeps from Hypercall = hypercall-so from
-attempt-keeps from VtlCall =
+-- it does so unless it is level 1's call that sets registers
+pub attempt-keeps : (from : Origin) (op : Op) → (op ≡ Hypercall → Spares from.state (code_in (input_value from.state))) → EndsIn (λ (o : Outcome). KeepsOther from.state o.state) (attempt from op)
+attempt-keeps from (Set name value) spares = set-so from name value
+attempt-keeps from (Get name) spares = get-so from name
+attempt-keeps from (Load name gva) spares = let goal = goal_of from.pages from.state Read true gva.0 0 in begun-so from (loaded from.state name) goal (start_fault goal) (λ grant. legal-then-on from.state name grant.value)
+attempt-keeps from (Store gva what) spares = let goal = goal_of from.pages from.state Write true gva.0 (operand from.state what) in begun-so from (passed from.state) goal (start_fault goal) (λ grant. gone_on-stays from.state)
+attempt-keeps from (Exec gva) spares = let goal = goal_of from.pages from.state Execute false gva.0 0 in begun-so from (passed from.state) goal (start_fault goal) (λ grant. gone_on-stays from.state)
+attempt-keeps from (Spin gva value) spares = let goal = goal_of from.pages from.state Read true gva.0 0 in begun-so from (spun from.state value) goal (start_fault goal) (λ grant. spun-stays (grant.value == value) from.state (gone_on from.state) grant (gone_on-stays from.state))
+attempt-keeps from (Jump rip) spares = keeps-so from.state _ (gone_to-stays from.state rip)
+attempt-keeps from (JumpNe name value rip) spares = keeps-so from.state _ (jumped-stays (word_of from.state name == value) from.state rip)
+attempt-keeps from Hypercall spares = hypercall-so from (spares refl)
+attempt-keeps from VtlCall spares =
     EndsIn-cond (Keeps from.state) (may_call from.state) (in_own_access (told_on (assist_page from.pages from.state) by_call) (plain from (called from.state))) (Ends (faulted from Undefined)) (own-so (assist_page from.pages from.state) by_call (plain from (called from.state)) from.state (entered-so from.state (gone_on from.state) (gone_on-stays from.state))) (faulted-so from Undefined)
-attempt-keeps from VtlReturn =
+attempt-keeps from VtlReturn spares =
     EndsIn-cond (Keeps from.state) (may_return from.state) (returns from (restored_from from.pages from.state)) (Ends (faulted from Undefined)) (returns-so from (restored_from from.pages from.state)) (faulted-so from Undefined)
-attempt-keeps from Poll = λ a. λ b. λ c. λ d. λ e. λ f. λ g. λ h. polled_on-so from _
-attempt-keeps from (Ack name) = keeps-so from.state _ (legal-then-on from.state name (vector_or_zero (next_vector from)))
-attempt-keeps from Eoi = keeps-so from.state _ (gone_on-stays from.state)
-attempt-keeps from ops.Eom =
+attempt-keeps from Poll spares = λ a. λ b. λ c. λ d. λ e. λ f. λ g. λ h. polled_on-so from _
+attempt-keeps from (Ack name) spares = keeps-so from.state _ (legal-then-on from.state name (vector_or_zero (next_vector from)))
+attempt-keeps from Eoi spares = keeps-so from.state _ (gone_on-stays from.state)
+attempt-keeps from ops.Eom spares =
     EndsIn-cond (Keeps from.state) (is_zero from.state.active) (Ends (eom_outcome from None)) (eom_on from (message_page from.pages from.state) from.controllers.waiting) (eom-so from None) (eom_on-so from (message_page from.pages from.state) from.controllers.waiting)
-attempt-keeps from _ = faulted-so from Undefined
-
--- where an attempt stops
-run_on-keeps : (Q : Outcome → Type 0) (limits : Limits) (p : ℕ) (flat : Flat) (t : Tree Outcome) → EndsIn Q t → EndsIn Q (run_on limits p flat t).at
-run_on-keeps Q limits p flat (Ends o) h = h
-run_on-keeps Q limits p flat (Asks s k) h = run_on-keeps Q limits p (flat_after limits p flat s) (k (answer_in limits p flat s)) (h (answer_in limits p flat s))
-run_on-keeps Q limits p flat (Wants q k) h = h
+attempt-keeps from _ spares = faulted-so from Undefined
 
 saw-state : (op : Option Op) (v : Vp) (e : Event) → (saw op v e).state ≡ v.state
 saw-state op v (events.Check generation) = refl
 saw-state op v _ = refl
-
-fold-saw-state : (op : Option Op) (v : Vp) (es : List Event) → (fold (saw op) v es).state ≡ v.state
-fold-saw-state op v [] = refl
-fold-saw-state op v (e ∷ es) = fold-saw-state op (saw op v e) es ∙ saw-state op v e
 
 again-so : (v : Vp) (o : Outcome) (ending : Option Ending) (s : State) → v.state ≡ s → KeepsOther s (marked_or_ended v o ending).state
 again-so v o None s same = rw same (keeps-same s)
@@ -249,26 +379,34 @@ settled-so (Ends o) v s same h = came-so o.what v o s same h
 settled-so (Asks step k) v s same h = rw same (keeps-same s)
 settled-so (Wants q k) v s same h = rw same (keeps-same s)
 
-did-so : (partition : PartitionState) (v : Vp) (flat : Flat) (t : Tree Outcome) (s : State) → v.state ≡ s → EndsIn (Keeps s) t → KeepsOther s (did_at partition v flat t).vp.state
-did-so partition v flat (Ends o) s same h = settled-so (Ends o) v s same h
-did-so partition v flat (Asks step k) s same h = rw same (keeps-same s)
-did-so partition v flat (Wants q k) s same h = settled-so (k (answer partition q)) v s same (h (answer partition q))
+-- all that an attempt does, over words of any kind
+module _ {W : Type 0} (answers : W → WordStep → ℕ) (changes : W → WordStep → W) where
+  did-so : (partition : PartitionState) (op : Option Op) (v : Vp) (words : W) (t : Tree Outcome) (s : State) → v.state ≡ s → EndsIn (Keeps s) t → KeepsOther s (does_all answers changes partition op v words t).vp.state
+  did-so partition op v words (Ends o) s same h = settled-so (Ends o) v s same h
+  did-so partition op v words (Asks step k) s same h =
+      let x = answers words step in
+      did-so partition op (saw op v (made step x)) (changes words step) (k x) s (saw-state op v (made step x) ∙ same) (h x)
+  did-so partition op v words (Wants q k) s same h =
+      let reply = answer partition q in
+      did-so (after partition q) op (answered reply (asking op v)) words (k reply) s same (h reply)
 
-tree-keeps : (from : Origin) (op : Option Op) → EndsIn (Keeps from.state) (tree_of from op)
-tree-keeps from None = faulted-so from Undefined
-tree-keeps from (Some op) = attempt-keeps from op
+tree-keeps : (from : Origin) (op : Option Op) → (op ≡ Some Hypercall → Spares from.state (code_in (input_value from.state))) → EndsIn (Keeps from.state) (tree_of from op)
+tree-keeps from None spares = faulted-so from Undefined
+tree-keeps from (Some op) spares = attempt-keeps from op (λ e. spares (ap Some e))
 
-attempted-keeps : (program : Program) (v : Vp) (partition : PartitionState) (flat : Flat) → KeepsOther v.state (attempted program v partition flat).vp.state
+attempted-keeps : (program : Program) (v : Vp) (partition : PartitionState) (flat : Flat) → (operation_at program v.state ≡ Some Hypercall → Spares v.state (code_in (input_value v.state))) → KeepsOther v.state (attempted program v partition flat).vp.state
 unfolding attempted
-attempted-keeps program v partition flat =
+attempted-keeps program v partition flat spares =
     let op = operation_at program v.state in
-    let tree = tree_of (origin_of v) op in
-    let stop = run_on v.limits v.number flat tree in
-    did-so partition (fold (saw op) v stop.events) stop.words stop.at v.state (fold-saw-state op v stop.events) (run_on-keeps (Keeps v.state) v.limits v.number flat tree (tree-keeps (origin_of v) op))
+    did-so (answer_in v.limits v.number) (flat_after v.limits v.number) partition op v flat (tree_of (origin_of v) op) v.state refl (tree-keeps (origin_of v) op spares)
 
 other-twice : (level : Vtl) → other_level (other_level level) ≡ level
 other-twice Zero = refl
 other-twice One = refl
+
+spares-by : (level : Vtl) (program : Program) (v : Vp) → v.state.active ≡ other_level level → SetsNone level program v → operation_at program v.state ≡ Some Hypercall → Spares v.state (code_in (input_value v.state))
+spares-by Zero program v away none is one = none is
+spares-by One program v away none is one = let no : Zero ≡ One = sym away ∙ one in cc
 
 -- a level keeps its registers while it is away
 pub away-keeps : (level : Vtl) (program : Program) (v : Vp) (es : List (PartitionState × Flat)) → IsAway level program v es → private_of (after_attempts program v es).state.registers level ≡ private_of v.state.registers level
@@ -276,4 +414,5 @@ away-keeps level program v [] away = refl
 away-keeps level program v (e ∷ es) away =
     let next = (attempted program v e.0 e.1).vp in
     let own : other_level v.state.active ≡ level = ap other_level away.0 ∙ other-twice level in
-    away-keeps level program next es away.2 ∙ subst (λ l. private_of next.state.registers l ≡ private_of v.state.registers l) own (attempted-keeps program v e.0 e.1 away.1)
+    let kept = attempted-keeps program v e.0 e.1 (spares-by level program v away.0 away.2) away.1 in
+    away-keeps level program next es away.3 ∙ subst (λ l. private_of next.state.registers l ≡ private_of v.state.registers l) own kept

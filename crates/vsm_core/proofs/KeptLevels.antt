@@ -1,16 +1,16 @@
 -- An attempt keeps the registers that are the other level's own.
-use Rattle.std.proofs.Common.{◌≡◌, ◌≢◌, ◌∙◌, ◌+◌, ◌==◌, ◌&&◌, ◌++◌, ℕ, zero, suc, Bool, true, false, not, cond, Option, Some, None, List, [], ◌∷◌, fold, refl, sym, ap, subst}
+use Rattle.std.proofs.Common.{◌≡◌, ◌∙◌, ◌+◌, ◌++◌, ℕ, zero, suc, Bool, true, false, cond, Option, Some, None, List, [], ◌∷◌, refl, subst}
 use Rattle.vsm_base.specs.declared.name.Name.{Name}
 use Rattle.vsm_base.specs.declared.name.Name.TheVariants as names
-use Rattle.vsm_base.specs.declared.places.Access.{Access}
 use Rattle.vsm_base.specs.declared.places.Vtl.{Vtl}
 use Rattle.vsm_base.specs.declared.places.Vtl.TheVariants.{Zero, One}
-use Rattle.vsm_base.specs.declared.status.HvStatus.{HvStatus}
 use Rattle.vsm_base.specs.Names.{is_shared}
+use Rattle.vsm_core.specs.Attempt.{by_slot}
 use Rattle.vsm_core.specs.Keeps.{EndsIn, KeepsOther, other_level}
-use Rattle.vsm_core.specs.Registers.{Registers, is_legal, private_of, put as put_in, shared_place, private_place}
+use Rattle.vsm_core.specs.Outcomes.{Outcome}
+use Rattle.vsm_core.specs.Registers.{Registers, is_legal, private_of, put as put_in}
 use Rattle.vsm_core.specs.State.{State, put, put_legal, gone_to, gone_on, rip_of}
-use Rattle.vsm_core.specs.Tree.{Tree, Ends, Asks, Wants, WordStep, then_, asks_all, reads, takes}
+use Rattle.vsm_core.specs.Tree.{Tree, Ends, Asks, Wants, WordStep, then_, asks_all, reads}
 
 -- whatever is answered
 pub EndsIn-then_ : {A B : Type 0} (Q : B → Type 0) (t : Tree A) (f : A → Tree B) → ((a : A) → EndsIn Q (f a)) → EndsIn Q (then_ t f)
@@ -33,6 +33,10 @@ EndsIn-asks_all Q (s ∷ steps) rest h = λ x. EndsIn-asks_all Q steps rest h
 pub EndsIn-reads : {A : Type 0} (Q : A → Type 0) (page index count : ℕ) (found : List ℕ) (rest : List ℕ → Tree A) → ((words : List ℕ) → EndsIn Q (rest words)) → EndsIn Q (reads page index count found rest)
 EndsIn-reads Q page index zero found rest h = h found
 EndsIn-reads Q page index (suc count) found rest h = λ x. EndsIn-reads Q page (suc index) count (found ++ x ∷ []) rest h
+
+pub EndsIn-by_slot : (Q : Outcome → Type 0) (page : Option ℕ) (more : Option ℕ → Tree Outcome) → ((slot : Option ℕ) → EndsIn Q (more slot)) → EndsIn Q (by_slot page more)
+EndsIn-by_slot Q None more h = h None
+EndsIn-by_slot Q (Some page) more h = λ word. h (Some word)
 
 -- a state after which the active level and the enabled levels are the same, and the other level's own registers
 pub record Stays (old new : State) : Type 0 where
@@ -58,7 +62,7 @@ put-other : (registers : Registers) (level : Vtl) (name : Name) (value : ℕ) �
 put-other registers Zero name value = private-cond (is_shared name) _ _ One registers.one refl refl
 put-other registers One name value = private-cond (is_shared name) _ _ Zero registers.zero refl refl
 
-put-stays : (s : State) (name : Name) (value : ℕ) → Stays s (put s name value)
+pub put-stays : (s : State) (name : Name) (value : ℕ) → Stays s (put s name value)
 put-stays s name value = record { active = refl; enabled = refl; private = put-other s.registers s.active name value }
 
 pub put_legal-stays : (s : State) (name : Name) (value : ℕ) → Stays s (put_legal s name value)

@@ -41,3 +41,6 @@ gone_on-keeps state level name other =
 
 pub put_legal-rax : (state : State) (value : ℕ) (level : Vtl) (name : Name) → name ≢ names.Rax → get (put_legal state names.Rax value).registers level name ≡ get state.registers level name
 put_legal-rax state value level name other = if-legal (is_legal names.Rax value) (put_active state names.Rax value) state level name (put-rax state.registers state.active level name value other)
+
+pub put_legal-rcx : (state : State) (value : ℕ) (level : Vtl) (name : Name) → name ≢ names.Rcx → get (put_legal state names.Rcx value).registers level name ≡ get state.registers level name
+put_legal-rcx state value level name other = if-legal (is_legal names.Rcx value) (put_active state names.Rcx value) state level name (put-rcx state.registers state.active level name value other)

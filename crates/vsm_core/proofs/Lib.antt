@@ -1,6 +1,7 @@
 pub mod Bounds
 pub mod Checks
 pub mod KeptAttempts
+pub mod KeptElements
 pub mod KeptLevels
 pub mod KeptRefusals
 pub mod KeptRegisters

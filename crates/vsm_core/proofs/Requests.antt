@@ -1,6 +1,7 @@
--- What an attempt asks of the partition: its processor is named, and the reply ends it.
-use Rattle.std.proofs.Common.{◌≡◌, ◌==◌, ℕ, zero, suc, Bool, true, false, cond, nat_lt, Option, Some, None, List, [], ◌∷◌, ◌++◌, refl, ◌/◌, ◌%◌}
+-- What an attempt asks of the partition: its processor is named, and nothing is asked after the reply.
+use Rattle.std.proofs.Common.{◌≡◌, ◌==◌, ◌+◌, ◌*◌, ◌/◌, ◌%◌, ℕ, zero, suc, Bool, true, false, cond, nat_lt, Option, Some, None, List, [], ◌∷◌, ◌++◌, take, drop, refl}
 use Rattle.vsm_base.specs.Masks.{allows}
+use Rattle.vsm_base.specs.declared.name.Name.{Name}
 use Rattle.vsm_base.specs.declared.places.Access.{Access}
 use Rattle.vsm_base.specs.declared.places.Access.TheVariants.{Read, Write, Execute}
 use Rattle.vsm_base.specs.declared.places.Vtl.{Vtl}
@@ -13,22 +14,28 @@ use Rattle.vsm_core.specs.declared.mark.What.{What}
 use Rattle.vsm_core.specs.declared.mark.What.TheVariants as whats
 use Rattle.vsm_core.specs.declared.note.Note.{Note}
 use Rattle.vsm_core.specs.declared.operation.Op.{Op}
-use Rattle.vsm_core.specs.declared.operation.Op.TheVariants.{Load, Store, Exec, Spin, Hypercall, VtlCall, VtlReturn, Poll}
+use Rattle.vsm_core.specs.declared.operation.Op.TheVariants.{Set, Get, Load, Store, Exec, Spin, Hypercall, VtlCall, VtlReturn, Poll}
 use Rattle.vsm_core.specs.declared.operation.Op.TheVariants as ops
+use Rattle.vsm_core.specs.declared.request.Heard.{Heard}
 use Rattle.vsm_core.specs.declared.request.Reply.{Reply}
 use Rattle.vsm_core.specs.declared.request.Request.{Request}
 use Rattle.vsm_core.specs.Access.{Goal, Decision, Grants, Denies, Faults, data_step, covers, behind_mask, reaches, by_mask, at_page, entry_step, by_table_mask, at_table, tables, access, query_of, start_fault}
-use Rattle.vsm_core.specs.Attempt.{attempt, by_access, begun, leaves, left_with, in_own_access, told_on, by_slot, posting, tells, refused, goal_of, returns, is_wanted, wanted_outcome, unwanted_outcome, polled_on, sending, sends, eom_on, requests, left_for, reads_input, behind_input_mask, by_memory, by_refusal, hypercall_tree}
+use Rattle.vsm_core.specs.Attempt.{attempt, by_access, begun, leaves, left_with, in_own_access, told_on, by_slot, posting, tells, refused, hit_tells, hits_on, intercepted, is_write_hit, is_read_hit, set_tree, get_tree, goal_of, returns, is_wanted, wanted_outcome, unwanted_outcome, polled_on, sending, sends, eom_on, behind_page_mask, requests, left_for, puts_out, looked_by, looks, gets_from, gets_by, by_input, reads_slice, reads_input, behind_output, by_memory, admitted, by_refusal, hypercall_tree}
 use Rattle.vsm_core.specs.Calls.{Row, row_of, code_in, is_fast}
-use Rattle.vsm_core.specs.Controllers.{Controllers, message_page}
+use Rattle.vsm_core.specs.Controllers.{Controllers, message_page, writes}
 use Rattle.vsm_core.specs.Fills.{Cached, Fill, Translation}
-use Rattle.vsm_core.specs.Hypercalls.{input_value, input_address, fast_words, input_refusal, request_of, replied}
-use Rattle.vsm_core.specs.Outcomes.{Origin, Outcome, Refusal, faulted, plain, loaded, passed, spun, note_of, held_outcome, denied_outcome, eom_outcome}
+use Rattle.vsm_core.specs.Hypercalls.{input_value, input_address, output_address, has_output, fast_words, input_refusal, request_of, look_request, replied, result_outcome}
+use Rattle.vsm_core.specs.Keeps.{EndsIn}
+use Rattle.vsm_core.specs.Outcomes.{Origin, Outcome, Refusal, faulted, plain, loaded, passed, spun, set_outcome, get_outcome, note_of, register_note, held_outcome, denied_outcome, hit_outcome, eom_outcome}
 use Rattle.vsm_core.specs.Processor.{tree_of}
+use Rattle.vsm_core.specs.RegisterCalls.{count_of, start_of, past_of, header_refusal, value_words, is_look, set_registers, slice_numbers, slice_output, got_slice}
+use Rattle.vsm_core.specs.Reps.{first_word, words_between}
 use Rattle.vsm_core.specs.State.{State, operand, privilege_of}
 use Rattle.vsm_core.specs.Switch.{may_call, may_return, may_enter, called, is_zero, assist_page, restored_from, by_call, by_interrupt}
-use Rattle.vsm_core.specs.Tree.{Tree, Ends, Asks, Wants, WordStep, then_, asks_all, reads, after, follow}
+use Rattle.vsm_core.specs.Targets.{target_level}
+use Rattle.vsm_core.specs.Tree.{Tree, Ends, Asks, Wants, WordStep, then_, asks_all, reads, after, follow, by_reply, followed}
 use Rattle.vsm_core.specs.Walk.{Walked, Need, Mapped, Refused, walk}
+use Rattle.vsm_core.proofs.KeptLevels.{EndsIn-cond, EndsIn-asks_all, EndsIn-by_slot}
 
 -- of each request of the tree, and of how it goes on by the reply, P holds
 abbrev pub Asked : {A : Type 0} → (Request → (Reply → Tree A) → Type 0) → Tree A → Type 0
@@ -37,10 +44,10 @@ Asked P (Asks s k) = (x : ℕ) → Asked P (k x)
 Asked P (Wants q k) = P q k
 
 -- nothing is asked of the partition
-abbrev Unasked : {A : Type 0} → Tree A → Type 0
+abbrev pub Unasked : {A : Type 0} → Tree A → Type 0
 Unasked t = Asked (λ q k. ⊥) t
 
-after-asked : {A : Type 0} (P : Request → (Reply → Tree A) → Type 0) (t : Tree A) (x : ℕ) → Asked P t → Asked P (after t x)
+pub after-asked : {A : Type 0} (P : Request → (Reply → Tree A) → Type 0) (t : Tree A) (x : ℕ) → Asked P t → Asked P (after t x)
 after-asked P (Ends a) x h = h
 after-asked P (Asks s k) x h = h x
 after-asked P (Wants q k) x h = h
@@ -49,6 +56,12 @@ after-asked P (Wants q k) x h = h
 pub follow-asked : {A : Type 0} (P : Request → (Reply → Tree A) → Type 0) (t : Tree A) (xs : List ℕ) → Asked P t → Asked P (follow t xs)
 follow-asked P t [] h = h
 follow-asked P t (x ∷ xs) h = follow-asked P (after t x) xs (after-asked P t x h)
+
+-- where nothing is asked, all of it holds
+unasked-asked : {A : Type 0} (P : Request → (Reply → Tree A) → Type 0) (t : Tree A) → Unasked t → Asked P t
+unasked-asked P (Ends a) h = h
+unasked-asked P (Asks s k) h = λ x. unasked-asked P (k x) (h x)
+unasked-asked P (Wants q k) h = absurd h
 
 then_-asked : {A B : Type 0} (P : Request → (Reply → Tree B) → Type 0) (t : Tree A) (f : A → Tree B) → Unasked t → ((a : A) → Asked P (f a)) → Asked P (then_ t f)
 then_-asked P (Ends a) f h g = g a
@@ -109,8 +122,8 @@ module _ (goal : Goal) where
   access-unasked : Unasked (access goal)
   access-unasked = λ x. λ generation. tables-unasked 4 generation []
 
--- of all that this caller asks, P holds
-module _ (P : Request → (Reply → Tree Outcome) → Type 0) (from : Origin) (own : (code : ℕ) (words : List ℕ) → P (request_of from code words) (λ reply. Ends (replied from reply))) where
+-- what this caller does by itself asks nothing of the partition
+module _ (P : Request → (Reply → Tree Outcome) → Type 0) (from : Origin) where
   tells-asked : (r : Refusal) (note : Note) (does : List Cached) (slot : Option ℕ) → Asked P (tells from r note does slot)
   tells-asked r note does slot =
       asks_all-asked P (posting from (message_page from.pages from.state) note slot ++ told_on (assist_page from.pages from.state) by_interrupt) (left_with (denied_outcome from r note slot does)) (λ x. tt)
@@ -158,66 +171,162 @@ module _ (P : Request → (Reply → Tree Outcome) → Type 0) (from : Origin) (
   eom_on-asked (Some page) [] = tt
   eom_on-asked (Some page) (note ∷ more) = λ a. λ b. λ word. sends-asked word
 
-  reads_input-asked : (row : Row) (address : ℕ) → Asked P (reads_input from row address)
-  reads_input-asked row address = reads-asked P (address / 4096) (address % 4096 / 8) (row.header / 8) [] (left_for from row.code) (λ words. λ x. own row.code words)
+  behind_page_mask-asked : (level : Vtl) (kind : Access) (address generation : ℕ) (rest : Tree Outcome) → Asked P rest → Asked P (behind_page_mask level from kind address generation rest)
+  behind_page_mask-asked Zero kind address generation rest h = λ mask.
+      let r : Refusal = record { page = address / 4096; mask = mask; generation = generation; access = kind; gpa = address } in
+      cond-asked P (allows mask kind) rest (refused from None r []) h (refused-asked None r [])
+  behind_page_mask-asked One kind address generation rest h = h
 
-  behind_input_mask-asked : (level : Vtl) (address generation : ℕ) (rest : Tree Outcome) → Asked P rest → Asked P (behind_input_mask level from address generation rest)
-  behind_input_mask-asked Zero address generation rest h = λ mask.
-      let r : Refusal = record { page = address / 4096; mask = mask; generation = generation; access = Read; gpa = address } in
-      cond-asked P (allows mask Read) rest (refused from None r []) h (refused-asked None r [])
-  behind_input_mask-asked One address generation rest h = h
+  puts_out-asked : (words : List ℕ) (o : Outcome) → Asked P (puts_out from words o)
+  puts_out-asked words o =
+      asks_all-asked P (writes (output_address from.state / 4096) (output_address from.state % 4096 / 8 + 2 * start_of from) words) (left_with o) (λ x. tt)
+
+  looked_by-asked : (reply : Reply) → Asked P (looked_by from reply)
+  looked_by-asked reply = λ a. λ generation.
+      let o = result_outcome from from.state reply.status reply.done in
+      behind_page_mask-asked from.state.active Write (output_address from.state) generation (puts_out from (value_words reply.value) o) (puts_out-asked (value_words reply.value) o)
+
+  behind_output-asked : (row : Row) (generation : ℕ) (rest : Tree Outcome) → Asked P rest → Asked P (behind_output from row generation rest)
+  behind_output-asked row generation rest h =
+      cond-asked P (has_output row) (behind_page_mask from.state.active from Write (output_address from.state) generation rest) rest
+      (behind_page_mask-asked from.state.active Write (output_address from.state) generation rest h) h
+
+  hit_tells-asked : (note : Note) (slot : Option ℕ) → Asked P (hit_tells from note slot)
+  hit_tells-asked note slot =
+      asks_all-asked P (posting from (message_page from.pages from.state) note slot ++ told_on (assist_page from.pages from.state) by_interrupt) (left_with (hit_outcome from note slot)) (λ x. tt)
+
+  hits_on-asked : (note : Note) (page : Option ℕ) → Asked P (hits_on from note page)
+  hits_on-asked note None = told-asked (assist_page from.pages from.state) by_interrupt (hit_outcome from note None)
+  hits_on-asked note (Some page) = λ a. λ b. λ word. hit_tells-asked note (Some word)
+
+  intercepted-asked : (note : Note) → Asked P (intercepted from note)
+  intercepted-asked note = hits_on-asked note (message_page from.pages from.state)
+
+  set-asked : (name : Name) (value : ℕ) → Asked P (set_tree from name value)
+  set-asked name value =
+      let note = register_note from true name value in
+      cond-asked P (is_write_hit from name value) (intercepted from note) (Ends (set_outcome from name value)) (intercepted-asked note) tt
+
+  get-asked : (name : Name) → Asked P (get_tree from name)
+  get-asked name =
+      let note = register_note from false name 0 in
+      cond-asked P (is_read_hit from name) (intercepted from note) (Ends (get_outcome from name)) (intercepted-asked note) tt
+
+-- of all that this caller asks, P holds
+module _ (P : Request → (Reply → Tree Outcome) → Type 0) (from : Origin) (own : (code : ℕ) (words : List ℕ) → P (request_of from code words) (λ reply. Ends (replied from reply))) (look : P (look_request from) (looked_by from)) where
+  gets_from-asked : (target : Vtl) (numbers : List ℕ) → Asked P (gets_from from target numbers)
+  gets_from-asked target numbers =
+      cond-asked P (is_look (count_of from) numbers) (looks from) (puts_out from (slice_output from target numbers) (got_slice from target numbers))
+      (λ x. look) (puts_out-asked P from (slice_output from target numbers) (got_slice from target numbers))
+
+  gets_by-asked : (header words : List ℕ) (refusal : Option HvStatus) → Asked P (gets_by from header words refusal)
+  gets_by-asked header words None = gets_from-asked (target_level from.state.active header) (slice_numbers from words)
+  gets_by-asked header words (Some status) = λ x. tt
+
+  by_input-asked : (code : ℕ) (header words : List ℕ) → Asked P (by_input from code header words)
+  by_input-asked code header words =
+      let set : Tree Outcome = left_with (set_registers from header words) in
+      cond-asked P (code == 0x0050) (gets_by from header words (header_refusal from header)) (cond (code == 0x0051) set (left_for from code header)) (gets_by-asked header words (header_refusal from header))
+      (cond-asked P (code == 0x0051) set (left_for from code header) (λ x. tt) (λ x. own code header))
+
+  reads_slice-asked : (row : Row) (address : ℕ) (header : List ℕ) → Asked P (reads_slice from row address header)
+  reads_slice-asked row address header =
+      reads-asked P (address / 4096) (address % 4096 / 8 + row.header / 8 + first_word row.element (start_of from)) (words_between row.element (start_of from) (past_of from)) [] (by_input from row.code header) (by_input-asked row.code header)
+
+  reads_input-asked : (row : Row) (address : ℕ) → Asked P (reads_input from row address)
+  reads_input-asked row address = reads-asked P (address / 4096) (address % 4096 / 8) (row.header / 8) [] (reads_slice from row address) (reads_slice-asked row address)
 
   by_memory-asked : (row : Row) (address : ℕ) → Asked P (by_memory from row address)
-  by_memory-asked row address =
-      λ a. λ generation. behind_input_mask-asked from.state.active address generation (reads_input from row address) (reads_input-asked row address)
+  by_memory-asked row address = λ a. λ generation.
+      let input = reads_input from row address in
+      behind_page_mask-asked P from from.state.active Read address generation (behind_output from row generation input) (behind_output-asked P from row generation input (reads_input-asked row address))
+
+  admitted-asked : (row : Row) → Asked P (admitted from row)
+  admitted-asked row =
+      cond-asked P (is_fast (input_value from.state)) (requests from row.code (fast_words from.state)) (by_memory from row (input_address from.state)) (own row.code (fast_words from.state)) (by_memory-asked row (input_address from.state))
 
   by_refusal-asked : (row : Option Row) (refusal : Option HvStatus) → Asked P (by_refusal from row refusal)
   by_refusal-asked row (Some status) = tt
   by_refusal-asked None None = tt
-  by_refusal-asked (Some row) None =
-      cond-asked P (is_fast (input_value from.state)) (requests from row.code (fast_words from.state)) (by_memory from row (input_address from.state)) (own row.code (fast_words from.state)) (by_memory-asked row (input_address from.state))
+  by_refusal-asked (Some row) None = admitted-asked row
 
   hypercall-asked : Asked P (hypercall_tree from)
   hypercall-asked =
       let value = input_value from.state in
       let row = row_of (code_in value) in
-      let refusal = input_refusal from.pages row value (input_address from.state) in
+      let refusal = input_refusal from.pages row value (input_address from.state) (output_address from.state) in
       cond-asked P (privilege_of from.state == 0) (by_refusal from row refusal) (Ends (faulted from Undefined)) (by_refusal-asked row refusal) tt
 
   attempt-asked : (op : Op) → Asked P (attempt from op)
-  attempt-asked (Load name gva) = by_access-asked (loaded from.state name) (goal_of from.pages from.state Read true gva.0 0)
-  attempt-asked (Store gva what) = by_access-asked (passed from.state) (goal_of from.pages from.state Write true gva.0 (operand from.state what))
-  attempt-asked (Exec gva) = by_access-asked (passed from.state) (goal_of from.pages from.state Execute false gva.0 0)
-  attempt-asked (Spin gva value) = by_access-asked (spun from.state value) (goal_of from.pages from.state Read true gva.0 0)
+  attempt-asked (Set name value) = set-asked P from name value
+  attempt-asked (Get name) = get-asked P from name
+  attempt-asked (Load name gva) = by_access-asked P from (loaded from.state name) (goal_of from.pages from.state Read true gva.0 0)
+  attempt-asked (Store gva what) = by_access-asked P from (passed from.state) (goal_of from.pages from.state Write true gva.0 (operand from.state what))
+  attempt-asked (Exec gva) = by_access-asked P from (passed from.state) (goal_of from.pages from.state Execute false gva.0 0)
+  attempt-asked (Spin gva value) = by_access-asked P from (spun from.state value) (goal_of from.pages from.state Read true gva.0 0)
   attempt-asked Hypercall = hypercall-asked
   attempt-asked VtlCall =
-      cond-asked P (may_call from.state) (in_own_access (told_on (assist_page from.pages from.state) by_call) (plain from (called from.state))) (Ends (faulted from Undefined)) (told-asked (assist_page from.pages from.state) by_call (plain from (called from.state))) tt
+      cond-asked P (may_call from.state) (in_own_access (told_on (assist_page from.pages from.state) by_call) (plain from (called from.state))) (Ends (faulted from Undefined)) (told-asked P from (assist_page from.pages from.state) by_call (plain from (called from.state))) tt
   attempt-asked VtlReturn =
-      cond-asked P (may_return from.state) (returns from (restored_from from.pages from.state)) (Ends (faulted from Undefined)) (returns-asked (restored_from from.pages from.state)) tt
-  attempt-asked Poll = λ a. λ b. λ c. λ d. λ e. λ f. λ g. λ h. polled_on-asked _
+      cond-asked P (may_return from.state) (returns from (restored_from from.pages from.state)) (Ends (faulted from Undefined)) (returns-asked P from (restored_from from.pages from.state)) tt
+  attempt-asked Poll = λ a. λ b. λ c. λ d. λ e. λ f. λ g. λ h. polled_on-asked P from _
   attempt-asked ops.Eom =
-      cond-asked P (is_zero from.state.active) (Ends (eom_outcome from None)) (eom_on from (message_page from.pages from.state) from.controllers.waiting) tt (eom_on-asked (message_page from.pages from.state) from.controllers.waiting)
+      cond-asked P (is_zero from.state.active) (Ends (eom_outcome from None)) (eom_on from (message_page from.pages from.state) from.controllers.waiting) tt (eom_on-asked P from (message_page from.pages from.state) from.controllers.waiting)
   attempt-asked _ = tt
 
   pub tree-asked : (op : Option Op) → Asked P (tree_of from op)
   tree-asked None = tt
   tree-asked (Some op) = attempt-asked op
 
--- a hypercall's result
-abbrev pub IsResult : What → Type 0
-IsResult (whats.Reply value) = Unit {0}
-IsResult _ = ⊥
+-- an outcome that isn't that of a spin which found another value
+abbrev pub IsNoAgain : What → Type 0
+IsNoAgain (whats.Again grant) = ⊥
+IsNoAgain _ = Unit {0}
 
--- the end of an attempt with a hypercall's result
-abbrev pub EndsByResult : Tree Outcome → Type 0
-EndsByResult (Ends o) = IsResult o.what
-EndsByResult _ = ⊥
+abbrev pub NoAgain : Outcome → Type 0
+NoAgain o = IsNoAgain o.what
 
--- it is the processor of this number that asks, and any reply ends its attempt with a result
+-- it is the processor of this number that asks; after any reply nothing more is asked, and no spin goes on
 pub record IsOwnRequest (number : ℕ) (q : Request) (k : Reply → Tree Outcome) : Type 0 where
   pub by : q.by.0 ≡ number
-  pub ends : (reply : Reply) → EndsByResult (k reply)
+  pub ends : (reply : Reply) → Unasked (k reply) × EndsIn NoAgain (k reply)
 
-pub own-requests : (from : Origin) (op : Option Op) (answers : List ℕ) → Asked (IsOwnRequest from.number) (follow (tree_of from op) answers)
-own-requests from op answers =
-    follow-asked (IsOwnRequest from.number) (tree_of from op) answers (tree-asked (IsOwnRequest from.number) from (λ code words. record { by = refl; ends = λ reply. tt }) op)
+refused-no-again : (from : Origin) (gva : Option ℕ) (r : Refusal) (does : List Cached) → EndsIn NoAgain (refused from gva r does)
+refused-no-again from gva r does =
+    EndsIn-cond NoAgain (may_enter from.state) (by_slot (message_page from.pages from.state) (tells from r (note_of from gva r) does)) (left_with (held_outcome from r does))
+    (EndsIn-by_slot NoAgain (message_page from.pages from.state) (tells from r (note_of from gva r) does) (λ slot.
+    EndsIn-asks_all NoAgain (posting from (message_page from.pages from.state) (note_of from gva r) slot ++ told_on (assist_page from.pages from.state) by_interrupt) (left_with (denied_outcome from r (note_of from gva r) slot does)) (λ x. tt))) (λ x. tt)
+
+looked-no-again : (from : Origin) (level : Vtl) (generation : ℕ) (rest : Tree Outcome) → EndsIn NoAgain rest → EndsIn NoAgain (behind_page_mask level from Write (output_address from.state) generation rest)
+looked-no-again from Zero generation rest h = λ mask.
+    let r : Refusal = record { page = output_address from.state / 4096; mask = mask; generation = generation; access = Write; gpa = output_address from.state } in
+    EndsIn-cond NoAgain (allows mask Write) rest (refused from None r []) h (refused-no-again from None r [])
+looked-no-again from One generation rest h = h
+
+puts_out-no-again : (from : Origin) (reply : Reply) → EndsIn NoAgain (puts_out from (value_words reply.value) (result_outcome from from.state reply.status reply.done))
+puts_out-no-again from reply =
+    EndsIn-asks_all NoAgain (writes (output_address from.state / 4096) (output_address from.state % 4096 / 8 + 2 * start_of from) (value_words reply.value)) (left_with (result_outcome from from.state reply.status reply.done)) (λ x. tt)
+
+look-own : (from : Origin) → IsOwnRequest from.number (look_request from) (looked_by from)
+look-own from = record {
+  by = refl;
+  ends = λ reply. (looked_by-asked (λ q k. ⊥) from reply, λ a. λ generation. looked-no-again from from.state.active generation (puts_out from (value_words reply.value) (result_outcome from from.state reply.status reply.done)) (puts_out-no-again from reply));
+}
+
+own-tree : (from : Origin) (op : Option Op) → Asked (IsOwnRequest from.number) (tree_of from op)
+own-tree from op = tree-asked (IsOwnRequest from.number) from (λ code words. record { by = refl; ends = λ reply. (tt, tt) }) (look-own from) op
+
+-- the same after the reply
+by_reply-own : (number : ℕ) (t : Tree Outcome) (reply : Reply) → Asked (IsOwnRequest number) t → Asked (IsOwnRequest number) (by_reply t reply)
+by_reply-own number (Ends o) reply h = h
+by_reply-own number (Asks s k) reply h = h
+by_reply-own number (Wants q k) reply h = unasked-asked (IsOwnRequest number) (k reply) (h.ends reply).0
+
+followed-own : (number : ℕ) (t : Tree Outcome) (heard : Option Heard) (answers : List ℕ) → Asked (IsOwnRequest number) t → Asked (IsOwnRequest number) (followed t heard answers)
+followed-own number t None answers h = follow-asked (IsOwnRequest number) t answers h
+followed-own number t (Some heard) answers h =
+    let before = follow t (take heard.after answers) in
+    follow-asked (IsOwnRequest number) (by_reply before heard.reply) (drop heard.after answers) (by_reply-own number before heard.reply (follow-asked (IsOwnRequest number) t (take heard.after answers) h))
+
+pub own-requests : (from : Origin) (op : Option Op) (heard : Option Heard) (answers : List ℕ) → Asked (IsOwnRequest from.number) (followed (tree_of from op) heard answers)
+own-requests from op heard answers = followed-own from.number (tree_of from op) heard answers (own-tree from op)

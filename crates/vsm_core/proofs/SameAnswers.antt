@@ -1,5 +1,5 @@
 -- The shared words answer an attempt as their masks, generation, posted words and memory do.
-use Rattle.std.proofs.Common.{◌≡◌, ◌<◌, ◌≤◌, ◌+◌, ◌*◌, ℕ, List, [], ◌∷◌, refl, sym, ap, ◌∙◌, subst, arith, slice_index, slice_set, take, drop, bit_or}
+use Rattle.std.proofs.Common.{◌≡◌, ◌<◌, ◌≤◌, ◌+◌, ◌*◌, ℕ, Option, Some, List, [], ◌∷◌, refl, sym, ap, ◌∙◌, subst, arith, slice_index, slice_set, take, drop, bit_or}
 use Rattle.std.proofs.lemmas.List.{take-set-le, drop-set-lt, drop-set-add, get_or-take, get_or-drop, get_or-set_other}
 use Rattle.std.proofs.Math.Seq.{take-set-lt}
 use Rattle.vsm_base.specs.Levels.{level_number}
@@ -11,14 +11,16 @@ use Rattle.vsm_core.specs.declared.event.PendingWord.{PendingWord}
 use Rattle.vsm_core.specs.declared.event.PendingWord.TheVariants.{Start, Vectors}
 use Rattle.vsm_core.specs.Tree.{Tree, Ends, Asks, Wants, WordStep, Entering, Checking, Masking, Reading, Writing, Leaving, Posting, Taking}
 use Rattle.vsm_core.specs.declared.operation.Op.{Op}
-use Rattle.vsm_core.specs.State.{State}
+use Rattle.vsm_core.specs.declared.partition_state.PartitionState.{PartitionState}
+use Rattle.vsm_core.specs.AtOnce.{SameDid}
 use Rattle.vsm_core.specs.Attempt.{attempt}
-use Rattle.vsm_core.specs.Controllers.{Controllers}
-use Rattle.vsm_core.specs.Outcomes.{origin_in}
+use Rattle.vsm_core.specs.Outcomes.{Outcome}
+use Rattle.vsm_core.specs.Processor.{Vp, saw, asking, answered, origin_of, does_all}
+use Rattle.vsm_core.specs.Served.{answer, after, block}
 use Rattle.vsm_core.specs.Steps.{MayStep, IsPending, IsVectors, phase_of, made}
 use Rattle.vsm_core.specs.Sound.{Sound, IsOver}
-use Rattle.vsm_core.specs.Whole.{Flat, Stop, later, run_on, answer_in, flat_after, with_posted, memory_place, posted_place}
-use Rattle.vsm_core.specs.Words.{Holds, SameStop, steps_on, answer_of, words_by, busy_at, posted_at, memory_at, generation_at}
+use Rattle.vsm_core.specs.Whole.{Flat, answer_in, flat_after, with_posted, memory_place, posted_place}
+use Rattle.vsm_core.specs.Words.{Holds, answer_of, words_by, busy_at, posted_at, memory_at, generation_at}
 use Rattle.vsm_core.proofs.Soundness.{attempt-sound}
 
 -- a busy word is none of them
@@ -91,22 +93,21 @@ still_holds limits p es (Posting vp word bits) words flat low may h =
     subst (λ x. Holds limits (slice_set words (posted_at limits + place) (bit_or x bits)) (with_posted flat place (bit_or (slice_index flat.posted place) bits))) (sym (posted_answer limits place words flat inside h)) (posted_set limits place _ words flat inside h)
 still_holds limits p es (Taking word) words flat low may h = posted_set limits (posted_place limits p word) 0 words flat (pending_low limits p word low may) h
 
--- one event before both
-same_later : {A : Type 0} (limits : Limits) (e : Event) (steps : Stop A (List ℕ)) (whole : Stop A Flat) → SameStop limits steps whole → SameStop limits (later e steps) (later e whole)
-same_later limits e steps whole h = record { at = h.at; events = ap (λ es. e ∷ es) h.events; holds = h.holds }
+-- both come to the same: each step is answered alike, and each request is served by the same partition
+pub same_did : (Q : List Event → Outcome → Type 0) (limits : Limits) (p : ℕ) (op : Option Op) (s : PartitionState) (v : Vp) (es : List Event) (t : Tree Outcome) (words : List ℕ) (flat : Flat) → p < limits.vps → Sound limits Q es t → Holds limits words flat
+    → SameDid limits (does_all (answer_of limits p) (words_by limits p) s op v words t) (does_all (answer_in limits p) (flat_after limits p) s op v flat t)
+same_did Q limits p op s v es (Ends o) words flat low sound h = record { vp = refl; served = refl; holds = h }
+same_did Q limits p op s v es (Asks step k) words flat low sound h =
+    let x = answer_of limits p words step in
+    let e = same_answer limits p es step words flat low sound.0 h in
+    let r = same_did Q limits p op s (saw op v (made step x)) (made step x ∷ es) (k x) (words_by limits p words step) (flat_after limits p flat step) low (sound.1 x) (still_holds limits p es step words flat low sound.0 h) in
+    subst (λ y. SameDid limits (does_all (answer_of limits p) (words_by limits p) s op (saw op v (made step x)) (words_by limits p words step) (k x)) (does_all (answer_in limits p) (flat_after limits p) s op (saw op v (made step y)) (flat_after limits p flat step) (k y))) e r
+same_did Q limits p op s v es (Wants q k) words flat low sound h =
+    let reply = answer s q in
+    let r = same_did Q limits p op (after s q) (answered reply (asking op v)) es (k reply) words flat low (sound.1 reply) h in
+    record { vp = r.vp; served = ap (λ served. (q, block s q) ∷ served) r.served; holds = r.holds }
 
--- both come to the same end
-pub same_stop : {A : Type 0} (Q : List Event → A → Type 0) (limits : Limits) (p : ℕ) (es : List Event) (t : Tree A) (words : List ℕ) (flat : Flat) → p < limits.vps → Sound limits Q es t → Holds limits words flat
-    → SameStop limits (steps_on limits p words t) (run_on limits p flat t)
-same_stop Q limits p es (Ends a) words flat low sound h = record { at = refl; events = refl; holds = h }
-same_stop Q limits p es (Wants q k) words flat low sound h = record { at = refl; events = refl; holds = h }
-same_stop {A} Q limits p es (Asks s k) words flat low sound h =
-    let x = answer_of limits p words s in
-    let e = same_answer limits p es s words flat low sound.0 h in
-    let r = same_stop Q limits p (made s x ∷ es) (k x) (words_by limits p words s) (flat_after limits p flat s) low (sound.1 x) (still_holds limits p es s words flat low sound.0 h) in
-    subst (λ y. SameStop limits (later (made s x) (steps_on limits p (words_by limits p words s) (k x))) (later (made s y) (run_on limits p (flat_after limits p flat s) (k y)))) e (same_later limits (made s x) _ _ r)
-
-pub attempt-same : (limits : Limits) (p : ℕ) (state : State) (controllers : Controllers) (op : Op) (words : List ℕ) (flat : Flat) → p < limits.vps → Holds limits words flat
-    → SameStop limits (steps_on limits p words (attempt (origin_in limits p state controllers) op)) (run_on limits p flat (attempt (origin_in limits p state controllers) op))
-attempt-same limits p state controllers op words flat low h =
-    same_stop IsOver limits p [] (attempt (origin_in limits p state controllers) op) words flat low (attempt-sound limits p state controllers op [] low refl) h
+pub attempt-same : (v : Vp) (s : PartitionState) (op : Op) (words : List ℕ) (flat : Flat) → v.number < v.limits.vps → Holds v.limits words flat
+    → SameDid v.limits (does_all (answer_of v.limits v.number) (words_by v.limits v.number) s (Some op) v words (attempt (origin_of v) op)) (does_all (answer_in v.limits v.number) (flat_after v.limits v.number) s (Some op) v flat (attempt (origin_of v) op))
+attempt-same v s op words flat low h =
+    same_did IsOver v.limits v.number (Some op) s v [] (attempt (origin_of v) op) words flat low (attempt-sound v.limits v.number v.state v.controllers op [] low refl) h

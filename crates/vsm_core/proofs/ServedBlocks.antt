@@ -1,5 +1,5 @@
 -- The journal of requests that were served one after the other is whole.
-use Rattle.std.proofs.Common.{◌≡◌, ℕ, Bool, true, false, Option, Some, None, List, [], ◌∷◌, ◌++◌, map, length, drop, refl, ap}
+use Rattle.std.proofs.Common.{◌≡◌, ℕ, Bool, false, Option, Some, None, List, [], ◌∷◌, ◌++◌, map, length, drop, refl, ap}
 use Rattle.std.proofs.Math.ListN.{length-set}
 use Rattle.std.specs.List.{fold}
 use Rattle.vsm_base.specs.declared.places.VpIndex.{VpIndex}
@@ -12,7 +12,7 @@ use Rattle.vsm_core.specs.Served.{Service, refused, judged, enable_partition, en
 use Rattle.vsm_core.specs.declared.journal.Entry.{Entry}
 use Rattle.vsm_core.specs.declared.partition_state.PartitionState.{PartitionState}
 use Rattle.vsm_core.specs.declared.request.PartCall.{PartCall}
-use Rattle.vsm_core.specs.declared.request.PartCall.TheVariants.{EnablePartition, EnableVp}
+use Rattle.vsm_core.specs.declared.request.PartCall.TheVariants.{EnablePartition, EnableVp, ReadStatus}
 use Rattle.vsm_core.specs.declared.request.Request.{Request}
 
 -- what a request leaves: its entries are a block, and neither rounds nor protection nor the number of processors change
@@ -35,6 +35,7 @@ call-lawful s by level (EnablePartition words) =
 call-lawful s by level (EnableVp words) =
     let vp = named by.0 (index_of words) in
     judged-lawful s by (first_failed (enable_vp_checks s by.0 level vp words (drop 2 words))) (enable_vp s by vp (drop 2 words)) (record { block = refl; rounds = refl; on = refl; vps = length-set s.vps vp _ })
+call-lawful s by level ReadStatus = record { block = refl; rounds = refl; on = refl; vps = refl }
 call-lawful s by level _ = refused-lawful s by _
 
 pub lawful : (s : PartitionState) (r : Request) → IsLawful s (serve s r)

@@ -1,5 +1,5 @@
 -- An attempt asks only what may be asked.
-use Rattle.std.proofs.Common.{◌≡◌, ◌≢◌, ◌<◌, ◌≤◌, ◌+◌, ◌*◌, nat_le, length, ◌∙◌, ℕ, zero, suc, Bool, true, false, not, cond, nat_lt, Option, Some, None, List, [], ◌∷◌, ◌++◌, refl, subst, arith, ◌%◌, ◌/◌, ◌^◌, ◌==◌, ◌&&◌}
+use Rattle.std.proofs.Common.{◌≡◌, ◌≢◌, ◌<◌, ◌≤◌, ◌+◌, ◌*◌, nat_le, length, IfSome, ◌∙◌, ℕ, zero, suc, Bool, true, false, not, cond, nat_lt, Option, Some, None, List, [], ◌∷◌, ◌++◌, refl, subst, arith, ◌%◌, ◌/◌, ◌^◌, ◌==◌, ◌&&◌}
 use Rattle.std.specs.List.{list_all}
 use Rattle.std.proofs.lemmas.Bool.Decides.{nat_tests}
 use Rattle.vsm_base.specs.Masks.{allows}
@@ -9,7 +9,6 @@ use Rattle.vsm_base.specs.declared.places.Limits.{Limits}
 use Rattle.vsm_base.specs.declared.places.Vtl.{Vtl}
 use Rattle.vsm_base.specs.declared.places.Vtl.TheVariants.{Zero, One}
 use Rattle.vsm_base.specs.declared.status.HvStatus.{HvStatus}
-use Rattle.vsm_base.specs.declared.status.TheConstants.HvStatus.{INVALID_ALIGNMENT, INVALID_HYPERCALL_INPUT, INVALID_PARAMETER}
 use Rattle.vsm_core.specs.declared.event.Event.{Event}
 use Rattle.vsm_core.specs.declared.event.Phase.TheVariants.{Idle}
 use Rattle.vsm_core.specs.declared.mark.Grant.{Grant}
@@ -17,25 +16,31 @@ use Rattle.vsm_core.specs.declared.mark.GuestFault.{GuestFault}
 use Rattle.vsm_core.specs.declared.mark.GuestFault.TheVariants.{Unmapped, Page}
 use Rattle.vsm_core.specs.declared.mark.What.{What}
 use Rattle.vsm_core.specs.declared.operation.Op.{Op}
-use Rattle.vsm_core.specs.declared.operation.Op.TheVariants.{Load, Store, Exec, Spin, Hypercall, VtlCall, VtlReturn, Poll}
+use Rattle.vsm_core.specs.declared.operation.Op.TheVariants.{Set, Get, Load, Store, Exec, Spin, Hypercall, VtlCall, VtlReturn, Poll}
 use Rattle.vsm_core.specs.declared.operation.Op.TheVariants as ops
 use Rattle.vsm_core.specs.declared.note.Note.{Note}
+use Rattle.vsm_core.specs.declared.request.Reply.{Reply}
 use Rattle.vsm_core.specs.Tree.{Tree, Ends, Asks, Wants, WordStep, Masking, Writing, Leaving, Posting, then_, asks_all, takes, reads}
-use Rattle.vsm_core.specs.Calls.{Row, Check, check, row_of, code_in, count_in, is_fast as is_fast_call, first_failed, form_checks}
-use Rattle.vsm_core.specs.Hypercalls.{input_value, input_address, input_size, fast_words, input_refusal, place_checks}
+use Rattle.vsm_core.specs.Calls.{Row, Check, row_of, code_in, count_in, start_in, is_fast as is_fast_call, first_failed, form_checks}
+use Rattle.vsm_core.specs.Hypercalls.{input_value, input_address, output_address, input_size, output_size, has_output, fast_words, input_checks, input_refusal, place_checks, result_outcome}
+use Rattle.vsm_core.specs.RegisterCalls.{value_words, is_look, count_of, start_of, past_of, header_refusal, set_registers, slice_numbers, slice_output, got_slice}
+use Rattle.vsm_core.specs.Reps.{first_word, words_between}
+use Rattle.vsm_core.specs.Targets.{target_level}
 use Rattle.vsm_core.specs.State.{State, operand, privilege_of}
 use Rattle.vsm_core.specs.Steps.{IsIn, IsVectors, MayStep, made, phase_of}
 use Rattle.vsm_core.specs.Fills.{Cached, Fill, Translation}
 use Rattle.vsm_core.specs.Walk.{Query, Walked, Need, Mapped, Refused, walk, paged, of_entries, is_paging, is_canonical, is_present, is_right}
 use Rattle.vsm_core.specs.Access.{Goal, Decision, Grants, Denies, Faults, data_step, covers, behind_mask, reaches, by_mask, at_page, entry_step, by_table_mask, at_table, tables, access, query_of, start_fault}
 use Rattle.vsm_core.specs.Registers.{get as get_in}
+use Rattle.vsm_base.specs.declared.name.Name.{Name}
 use Rattle.vsm_base.specs.declared.name.Name.TheVariants as names
 use Rattle.vsm_core.specs.Switch.{may_call, may_return, may_enter, is_zero, is_fast, page_if, page_named, assist_page, restored_from, by_call, by_interrupt}
 use Rattle.vsm_core.specs.Controllers.{Controllers, message_page, message_steps, post_steps, pending_steps, writes, rings, sint0_vector, has_none, vector_words, with_taken}
 use Rattle.vsm_core.specs.Messages.{message_words, flagged, is_free}
-use Rattle.vsm_core.specs.Outcomes.{Origin, Outcome, Refusal, origin_in, outcome_at, faulted, fills, loaded, passed, spun, note_of, held_outcome, denied_outcome, eom_outcome}
-use Rattle.vsm_core.specs.Attempt.{attempt, by_access, begun, leaves, left_with, in_own_access, told_on, by_slot, posting, tells, refused, goal_of, returns, is_wanted, wanted_outcome, unwanted_outcome, polled_on, sending, polled, sends, eom_on, requests, left_for, reads_input, behind_input_mask, by_memory, by_refusal, hypercall_tree}
-use Rattle.vsm_core.proofs.Bounds.{words-twelve, flagged-length}
+use Rattle.vsm_core.specs.Outcomes.{Origin, Outcome, Refusal, origin_in, outcome_at, faulted, fills, loaded, passed, spun, note_of, held_outcome, denied_outcome, hit_outcome, register_note, set_outcome, get_outcome, eom_outcome}
+use Rattle.vsm_core.specs.Attempt.{attempt, by_access, begun, leaves, left_with, in_own_access, told_on, by_slot, posting, tells, refused, goal_of, returns, is_wanted, wanted_outcome, unwanted_outcome, polled_on, sending, polled, sends, eom_on, requests, left_for, hit_tells, hits_on, intercepted, is_write_hit, is_read_hit, set_tree, get_tree, behind_page_mask, puts_out, looked_by, looks, gets_by, by_input, reads_slice, reads_input, behind_output, by_memory, admitted, by_refusal, hypercall_tree}
+use Rattle.vsm_core.proofs.Bounds.{words-twelve, flagged-length, partition_row, level_row, get_row, set_row, each-row, past-inside, output-length}
+use Rattle.vsm_core.proofs.Checks.{none-fails}
 use Rattle.vsm_core.specs.Sound.{Sound, IsOver}
 
 -- first the one, and then what its end says
@@ -127,6 +132,10 @@ page_if-there false pages page h = tt
 and-second : (a b : Bool) → (a && b) ≡ true → b ≡ true
 and-second true b e = e
 and-second false b e = cc
+
+and-other : (a b : Bool) → a ≡ true → (a && b) ≡ false → b ≡ false
+and-other true b is e = e
+and-other false b is e = cc
 
 named-there : (pages word : ℕ) → IsThere pages (page_named pages word)
 named-there pages word =
@@ -231,11 +240,15 @@ module _ (limits : Limits) (number : ℕ) (state : State) (controllers : Control
   by_slot-sound es None more there inside h = h es None inside
   by_slot-sound es (Some page) more there inside h = ((inside, there, omega arith), λ word. h _ (Some word) inside)
 
+  -- the steps by which level 1 is told
+  told-quiet : (note : Note) (slot : Option ℕ) → AreQuiet limits (posting from (message_page limits.pages state) note slot ++ told_on (assist_page limits.pages state) by_interrupt)
+  told-quiet note slot =
+      quiet-append limits (posting from (message_page limits.pages state) note slot) (told_on (assist_page limits.pages state) by_interrupt) (posting-quiet (message_page limits.pages state) note slot (message-there limits.pages state)) (told_on-quiet limits (assist_page limits.pages state) by_interrupt (assist-there limits.pages state))
+
   tells-sound : (es : List Event) (r : Refusal) (note : Note) (does : List Cached) (slot : Option ℕ) → IsIn (phase_of es) → Sound limits IsOver es (tells from r note does slot)
   tells-sound es r note does slot inside =
       asks_all-sound limits IsOver es (posting from (message_page limits.pages state) note slot ++ told_on (assist_page limits.pages state) by_interrupt) (left_with (denied_outcome from r note slot does))
-      (quiet-append limits (posting from (message_page limits.pages state) note slot) (told_on (assist_page limits.pages state) by_interrupt) (posting-quiet (message_page limits.pages state) note slot (message-there limits.pages state)) (told_on-quiet limits (assist_page limits.pages state) by_interrupt (assist-there limits.pages state)))
-      inside (λ fs within. left-sound fs (denied_outcome from r note slot does) within)
+      (told-quiet note slot) inside (λ fs within. left-sound fs (denied_outcome from r note slot does) within)
 
   refused-sound : (es : List Event) (gva : Option ℕ) (r : Refusal) (does : List Cached) → IsIn (phase_of es) → Sound limits IsOver es (refused from gva r does)
   refused-sound es gva r does inside =
@@ -258,6 +271,26 @@ module _ (limits : Limits) (number : ℕ) (state : State) (controllers : Control
   told-sound : (es : List Event) (page : Option ℕ) (reason : ℕ) (o : Outcome) → IsThere limits.pages page → phase_of es ≡ Idle → Sound limits IsOver es (in_own_access (told_on page reason) o)
   told-sound es None reason o there idle = idle
   told-sound es (Some page) reason o there idle = (idle, λ a. (refl, λ b. ((tt, there, omega arith), λ c. ((λ e. cc), λ d. refl))))
+
+  hit_tells-sound : (es : List Event) (note : Note) (slot : Option ℕ) → IsIn (phase_of es) → Sound limits IsOver es (hit_tells from note slot)
+  hit_tells-sound es note slot inside =
+      asks_all-sound limits IsOver es (posting from (message_page limits.pages state) note slot ++ told_on (assist_page limits.pages state) by_interrupt) (left_with (hit_outcome from note slot))
+      (told-quiet note slot) inside (λ fs within. left-sound fs (hit_outcome from note slot) within)
+
+  hits_on-sound : (es : List Event) (note : Note) (page : Option ℕ) → IsThere limits.pages page → phase_of es ≡ Idle → Sound limits IsOver es (hits_on from note page)
+  hits_on-sound es note None there idle = told-sound es (assist_page limits.pages state) by_interrupt (hit_outcome from note None) (assist-there limits.pages state) idle
+  hits_on-sound es note (Some page) there idle = (idle, λ a. (refl, λ b. ((tt, there, omega arith), λ word. hit_tells-sound _ note (Some word) tt)))
+
+  intercepted-sound : (es : List Event) (note : Note) → phase_of es ≡ Idle → Sound limits IsOver es (intercepted from note)
+  intercepted-sound es note idle = hits_on-sound es note (message_page limits.pages state) (message-there limits.pages state) idle
+
+  set_tree-sound : (es : List Event) (name : Name) (value : ℕ) → phase_of es ≡ Idle → Sound limits IsOver es (set_tree from name value)
+  set_tree-sound es name value idle =
+      Sound-cond limits IsOver es (is_write_hit from name value) (intercepted from (register_note from true name value)) (Ends (set_outcome from name value)) (λ _. intercepted-sound es (register_note from true name value) idle) idle
+
+  get_tree-sound : (es : List Event) (name : Name) → phase_of es ≡ Idle → Sound limits IsOver es (get_tree from name)
+  get_tree-sound es name idle =
+      Sound-cond limits IsOver es (is_read_hit from name) (intercepted from (register_note from false name 0)) (Ends (get_outcome from name)) (λ _. intercepted-sound es (register_note from false name 0) idle) idle
 
   returns-sound : (es : List Event) (page : Option ℕ) → IsThere limits.pages page → phase_of es ≡ Idle → Sound limits IsOver es (returns from page)
   returns-sound es None there idle = idle
@@ -287,35 +320,48 @@ module _ (limits : Limits) (number : ℕ) (state : State) (controllers : Control
   eom_on-sound es (Some page) (note ∷ more) there idle =
       (idle, λ a. (refl, λ b. ((tt, there, omega arith), λ word. sends-sound _ word tt)))
 
--- the first check that fails refuses; where none refuses, none fails
-first_failed-cond : (b : Bool) (status : HvStatus) (checks : List Check) → cond b (Some status) (first_failed checks) ≡ None → (b ≡ false) × (first_failed checks ≡ None)
-first_failed-cond true status checks e = cc
-first_failed-cond false status checks e = (refl, e)
+-- where none of these and none of those refuses
+first_failed-parts : (checks more : List Check) → first_failed (checks ++ more) ≡ None → (first_failed checks ≡ None) × (first_failed more ≡ None)
+first_failed-parts [] more e = (refl, e)
+first_failed-parts (c ∷ checks) more e = by c.fails c.status (first_failed-parts checks more) e where
+  by : (b : Bool) (status : HvStatus) → (first_failed (checks ++ more) ≡ None → (first_failed checks ≡ None) × (first_failed more ≡ None)) → cond b (Some status) (first_failed (checks ++ more)) ≡ None → (cond b (Some status) (first_failed checks) ≡ None) × (first_failed more ≡ None)
+  by true status h e = cc
+  by false status h e = h e
 
-first_failed-later : (checks more : List Check) → first_failed (checks ++ more) ≡ None → first_failed more ≡ None
-first_failed-later [] more e = e
-first_failed-later (c ∷ checks) more e = first_failed-later checks more (first_failed-cond c.fails c.status (checks ++ more) e).1
+-- a call that goes on element by element begins below its count
+started : (row : Row) (value : ℕ) → first_failed (form_checks row value) ≡ None → row.is_rep ≡ true → start_in value < count_in value
+unfolding form_checks
+started row value e is = before (start_in value) (count_in value) (by row.is_rep is ((none-fails (form_checks row value) e).1.1.1.1.1.1.1.1.0)) where
+  by : (rep : Bool) → rep ≡ true → (rep && not (nat_lt (start_in value) (count_in value))) ≡ false → not (nat_lt (start_in value) (count_in value)) ≡ false
+  by true is fails = fails
+  by false is fails = cc
 
--- the words of an input that isn't refused stand in a page that there is
-place-low : (pages : ℕ) (row : Row) (value address : ℕ) → first_failed (place_checks pages row value address) ≡ None
-    → (address / 4096 < pages) × (address % 4096 / 8 + row.header / 8 ≤ 512)
-place-low pages row value address e =
-    let offset : ℕ = address % 4096 in
-    let size = input_size row value in
-    let past : Bool = nat_lt 4096 (offset + size) in
-    let away : Bool = nat_le pages (address / 4096) in
-    let first = first_failed-cond (not (offset % 8 == 0)) INVALID_ALIGNMENT (check INVALID_HYPERCALL_INPUT past ∷ check INVALID_PARAMETER away ∷ []) e in
-    let second = first_failed-cond past INVALID_HYPERCALL_INPUT (check INVALID_PARAMETER away ∷ []) first.1 in
-    let third = first_failed-cond away INVALID_PARAMETER [] second.1 in
-    let aligned : not (offset % 8 == 0) ≡ false = first.0 in
-    let short : nat_lt 4096 (offset + (row.header + row.element * count_in value)) ≡ false = second.0 in
-    let there : nat_le pages (address / 4096) ≡ false = third.0 in
-    let product : ℕ = row.element * count_in value in
-    let short_too : nat_lt 4096 (offset + (row.header + product)) ≡ false = short in
-    (grind (arith, nat_tests, there), within offset row.header product aligned short_too)
-  where
-    within : (offset header product : ℕ) → not (offset % 8 == 0) ≡ false → nat_lt 4096 (offset + (header + product)) ≡ false → offset / 8 + header / 8 ≤ 512
-    within offset header product aligned short = grind (arith, nat_tests, aligned, short)
+  before : (start count : ℕ) → not (nat_lt start count) ≡ false → start < count
+  before start count fails = grind (arith, nat_tests)
+
+-- so many bytes of a page that there is, from a word of it on
+record IsPart (pages address size : ℕ) : Type 0 where
+  aligned : address % 4096 % 8 ≡ 0
+  fits : address % 4096 + size ≤ 4096
+  there : address / 4096 < pages
+
+part-by : (pages address size : ℕ) → not (address % 4096 % 8 == 0) ≡ false → nat_lt 4096 (address % 4096 + size) ≡ false → nat_le pages (address / 4096) ≡ false → IsPart pages address size
+part-by pages address size first second third = record {
+  aligned = grind (arith, nat_tests, first);
+  fits = grind (arith, nat_tests, second);
+  there = grind (arith, nat_tests, third);
+}
+
+-- the input of a call that isn't refused, and its output
+input-part : (pages : ℕ) (row : Row) (value address output : ℕ) → first_failed (place_checks pages row value address output) ≡ None → IsPart pages address (input_size row value)
+input-part pages row value address output e =
+    let none = none-fails (place_checks pages row value address output) e in
+    part-by pages address (input_size row value) none.0 none.1.1.0 none.1.1.1.1.0
+
+output-part : (pages : ℕ) (row : Row) (value address output : ℕ) → first_failed (place_checks pages row value address output) ≡ None → has_output row ≡ true → IsPart pages output (output_size row value)
+output-part pages row value address output e is =
+    let none = none-fails (place_checks pages row value address output) e in
+    part-by pages output (output_size row value) (and-other _ _ is none.1.0) (and-other _ _ is none.1.1.1.0) (and-other _ _ is none.1.1.1.1.1.0)
 
 reads-sound : {A : Type 0} (limits : Limits) (Q : List Event → A → Type 0) (es : List Event) (page index count : ℕ) (found : List ℕ) (rest : List ℕ → Tree A) → page < limits.pages → index + count ≤ 512 → IsIn (phase_of es)
     → ((fs : List Event) (words : List ℕ) → IsIn (phase_of fs) → Sound limits Q fs (rest words)) → Sound limits Q es (reads page index count found rest)
@@ -330,40 +376,112 @@ module _ (limits : Limits) (number : ℕ) (state : State) (controllers : Control
   requests-sound : (es : List Event) (code : ℕ) (words : List ℕ) → phase_of es ≡ Idle → Sound limits IsOver es (requests caller code words)
   requests-sound es code words idle = (idle, λ reply. idle)
 
-  reads_input-sound : (es : List Event) (row : Row) (address : ℕ) → address / 4096 < limits.pages → address % 4096 / 8 + row.header / 8 ≤ 512 → IsIn (phase_of es) → Sound limits IsOver es (reads_input caller row address)
-  reads_input-sound es row address there few inside =
-      reads-sound limits IsOver es (address / 4096) (address % 4096 / 8) (row.header / 8) [] (left_for caller row.code) there few inside (λ fs words within. ((λ e. subst IsIn e within), λ x. requests-sound (made Leaving x ∷ fs) row.code words refl))
+  left_for-sound : (es : List Event) (code : ℕ) (words : List ℕ) → IsIn (phase_of es) → Sound limits IsOver es (left_for caller code words)
+  left_for-sound es code words inside = (inside-ne limits number state controllers low es inside, λ x. requests-sound (made Leaving x ∷ es) code words refl)
 
-  behind_input_mask-sound : (level : Vtl) (es : List Event) (address generation : ℕ) (rest : Tree Outcome) → address / 4096 < limits.pages → IsIn (phase_of es) → ((fs : List Event) → IsIn (phase_of fs) → Sound limits IsOver fs rest) → Sound limits IsOver es (behind_input_mask level caller address generation rest)
-  behind_input_mask-sound Zero es address generation rest there inside h = (
+  behind_page_mask-sound : (level : Vtl) (es : List Event) (kind : Access) (address generation : ℕ) (rest : Tree Outcome) → address / 4096 < limits.pages → IsIn (phase_of es) → ((fs : List Event) → IsIn (phase_of fs) → Sound limits IsOver fs rest) → Sound limits IsOver es (behind_page_mask level caller kind address generation rest)
+  behind_page_mask-sound Zero es kind address generation rest there inside h = (
     (inside, there),
     λ mask.
         let fs = made (Masking (address / 4096)) mask ∷ es in
-        let r : Refusal = record { page = address / 4096; mask = mask; generation = generation; access = Read; gpa = address } in
-        Sound-cond limits IsOver fs (allows mask Read) rest (refused caller None r []) (λ _. h fs inside) (refused-sound limits number state controllers low fs None r [] inside),
+        let r : Refusal = record { page = address / 4096; mask = mask; generation = generation; access = kind; gpa = address } in
+        Sound-cond limits IsOver fs (allows mask kind) rest (refused caller None r []) (λ _. h fs inside) (refused-sound limits number state controllers low fs None r [] inside),
   )
-  behind_input_mask-sound One es address generation rest there inside h = h es inside
+  behind_page_mask-sound One es kind address generation rest there inside h = h es inside
 
-  by_memory-sound : (es : List Event) (row : Row) (address : ℕ) → (address / 4096 < limits.pages) × (address % 4096 / 8 + row.header / 8 ≤ 512) → phase_of es ≡ Idle → Sound limits IsOver es (by_memory caller row address)
-  by_memory-sound es row address place idle =
-      (idle, λ a. (refl, λ generation. behind_input_mask-sound state.active _ address generation (reads_input caller row address) place.0 tt (λ fs inside. reads_input-sound fs row address place.0 place.1 inside)))
+  -- the output of a call that gets registers
+  module _ (placed : IsPart limits.pages (output_address state) (16 * count_of caller)) (before : start_of caller < count_of caller) where
+    puts_out-sound : (es : List Event) (words : List ℕ) (o : Outcome) → start_of caller * 2 + length words ≤ 2 * count_of caller → IsIn (phase_of es) → Sound limits IsOver es (puts_out caller words o)
+    puts_out-sound es words o few inside =
+        let page : ℕ = output_address state / 4096 in
+        let index : ℕ = output_address state % 4096 / 8 + 2 * start_of caller in
+        let aligned = placed.aligned in
+        let fits = placed.fits in
+        asks_all-sound limits IsOver es (writes page index words) (left_with o) (writes-quiet limits page index words placed.there (omega (arith, aligned, fits, few))) inside (λ fs within. left-sound limits number state controllers low fs o within)
 
-  admitted-sound : (fast : Bool) (es : List Event) (row : Row) (value address : ℕ) → first_failed (form_checks row value ++ cond fast [] (place_checks limits.pages row value address)) ≡ None → phase_of es ≡ Idle
-      → Sound limits IsOver es (cond fast (requests caller row.code (fast_words state)) (by_memory caller row address))
-  admitted-sound true es row value address e idle = requests-sound es row.code (fast_words state) idle
-  admitted-sound false es row value address e idle =
-      by_memory-sound es row address (place-low limits.pages row value address (first_failed-later (form_checks row value) (place_checks limits.pages row value address) e)) idle
+    looked_by-sound : (es : List Event) (reply : Reply) → phase_of es ≡ Idle → Sound limits IsOver es (looked_by caller reply)
+    looked_by-sound es reply idle =
+        let words = value_words reply.value in
+        let o : Outcome = result_outcome caller state reply.status reply.done in
+        (idle, λ a. (refl, λ generation. behind_page_mask-sound state.active _ Write (output_address state) generation (puts_out caller words o) placed.there tt (λ fs inside. puts_out-sound fs words o (omega (arith, before)) inside)))
 
-  by_refusal-sound : (es : List Event) (row : Option Row) (refusal : Option HvStatus) → input_refusal limits.pages row (input_value state) (input_address state) ≡ refusal → phase_of es ≡ Idle → Sound limits IsOver es (by_refusal caller row refusal)
-  by_refusal-sound es row (Some status) e idle = idle
-  by_refusal-sound es None None e idle = idle
-  by_refusal-sound es (Some row) None e idle = admitted-sound (is_fast_call (input_value state)) es row (input_value state) (input_address state) e idle
+    looks-sound : (es : List Event) → IsIn (phase_of es) → Sound limits IsOver es (looks caller)
+    looks-sound es inside = (inside-ne limits number state controllers low es inside, λ x. (refl, λ reply. looked_by-sound (made Leaving x ∷ es) reply refl))
+
+    gets_by-sound : (es : List Event) (header words : List ℕ) (refusal : Option HvStatus) → IsIn (phase_of es) → Sound limits IsOver es (gets_by caller header words refusal)
+    gets_by-sound es header words (Some status) inside = left-sound limits number state controllers low es (result_outcome caller state status (start_of caller)) inside
+    gets_by-sound es header words None inside =
+        let target = target_level state.active header in
+        let found : List ℕ = slice_numbers caller words in
+        let long = output-length caller target words in
+        let past = past-inside (start_of caller) (count_of caller) in
+        Sound-cond limits IsOver es (is_look (count_of caller) found) (looks caller) (puts_out caller (slice_output caller target found) (got_slice caller target found)) (λ _. looks-sound es inside)
+        (puts_out-sound es (slice_output caller target found) (got_slice caller target found) (omega (arith, long, past, before)) inside)
+
+  -- the words of the header and of the slice stand in the input's page
+  abbrev IsReadable : Row → ℕ → Type 0
+  IsReadable row address = address % 4096 / 8 + row.header / 8 + first_word row.element (start_of caller) + words_between row.element (start_of caller) (past_of caller) ≤ 512
+
+  reads_input-sound : (es : List Event) (row : Row) (address : ℕ) → address / 4096 < limits.pages → IsReadable row address → IsIn (phase_of es) → ((fs : List Event) (header words : List ℕ) → IsIn (phase_of fs) → Sound limits IsOver fs (by_input caller row.code header words)) → Sound limits IsOver es (reads_input caller row address)
+  reads_input-sound es row address there few inside h =
+      reads-sound limits IsOver es (address / 4096) (address % 4096 / 8) (row.header / 8) [] (reads_slice caller row address) there (omega (arith, few)) inside
+      (λ fs header within. reads-sound limits IsOver fs (address / 4096) (address % 4096 / 8 + row.header / 8 + first_word row.element (start_of caller)) (words_between row.element (start_of caller) (past_of caller)) [] (by_input caller row.code header) there few within (λ gs words deep. h gs header words deep))
+
+  behind_output-sound : (es : List Event) (row : Row) (generation : ℕ) (rest : Tree Outcome) → (has_output row ≡ true → output_address state / 4096 < limits.pages) → IsIn (phase_of es) → ((fs : List Event) → IsIn (phase_of fs) → Sound limits IsOver fs rest) → Sound limits IsOver es (behind_output caller row generation rest)
+  behind_output-sound es row generation rest there inside h =
+      Sound-cond limits IsOver es (has_output row) (behind_page_mask state.active caller Write (output_address state) generation rest) rest (λ is. behind_page_mask-sound state.active es Write (output_address state) generation rest (there is) inside h) (h es inside)
+
+  abbrev input : ℕ
+  input = input_address state
+
+  abbrev output : ℕ
+  output = output_address state
+
+  by_memory-sound : (es : List Event) (row : Row) → input / 4096 < limits.pages → (has_output row ≡ true → output / 4096 < limits.pages) → IsReadable row input → phase_of es ≡ Idle → ((fs : List Event) (header words : List ℕ) → IsIn (phase_of fs) → Sound limits IsOver fs (by_input caller row.code header words)) → Sound limits IsOver es (by_memory caller row input)
+  by_memory-sound es row there put few idle h =
+      let rest = reads_input caller row input in
+      (idle, λ a. (refl, λ generation. behind_page_mask-sound state.active _ Read input generation (behind_output caller row generation rest) there tt (λ fs inside. behind_output-sound fs row generation rest put inside (λ gs within. reads_input-sound gs row input there few within h))))
+
+  -- a call that isn't refused before its first step, whose input may be read and then does what may be done
+  admitted-by : (es : List Event) (row : Row) (fast : Bool) → first_failed (form_checks row (input_value state) ++ cond fast [] (place_checks limits.pages row (input_value state) input output)) ≡ None → phase_of es ≡ Idle
+      → (first_failed (form_checks row (input_value state)) ≡ None → IsPart limits.pages input (input_size row (input_value state)) → IsReadable row input)
+      → (first_failed (form_checks row (input_value state)) ≡ None → (has_output row ≡ true → IsPart limits.pages output (output_size row (input_value state))) → (fs : List Event) (header words : List ℕ) → IsIn (phase_of fs) → Sound limits IsOver fs (by_input caller row.code header words))
+      → Sound limits IsOver es (cond fast (requests caller row.code (fast_words state)) (by_memory caller row input))
+  admitted-by es row true e idle readable does = requests-sound es row.code (fast_words state) idle
+  admitted-by es row false e idle readable does =
+      let parts = first_failed-parts (form_checks row (input_value state)) (place_checks limits.pages row (input_value state) input output) e in
+      let part = input-part limits.pages row (input_value state) input output parts.1 in
+      let put = output-part limits.pages row (input_value state) input output parts.1 in
+      by_memory-sound es row part.there (λ is. (put is).there) (readable parts.0 part) idle (does parts.0 put)
+
+  -- each of the calls that there are
+  abbrev IsAdmitted : List Event → Row → Type 0
+  IsAdmitted es row = first_failed (input_checks limits.pages row (input_value state) input output) ≡ None → Sound limits IsOver es (admitted caller row)
+
+  admitted-sound : (es : List Event) (code : ℕ) → phase_of es ≡ Idle → IfSome (row_of code) (IsAdmitted es)
+  admitted-sound es code idle =
+      let fast : Bool = is_fast_call (input_value state) in
+      let past = past-inside (start_of caller) (count_of caller) in
+      each-row (IsAdmitted es) code
+      (λ e. admitted-by es partition_row fast e idle (λ form part. let aligned = part.aligned in let fits = part.fits in omega (arith, aligned, fits)) (λ form put fs header words inside. left_for-sound fs 0x000D header inside))
+      (λ e. admitted-by es level_row fast e idle (λ form part. let aligned = part.aligned in let fits = part.fits in omega (arith, aligned, fits)) (λ form put fs header words inside. left_for-sound fs 0x000F header inside))
+      (λ e. admitted-by es get_row fast e idle
+      (λ form part. let before = started get_row (input_value state) form refl in let aligned = part.aligned in let fits = part.fits in omega (arith, aligned, fits, before, past))
+      (λ form put fs header words inside. gets_by-sound (put refl) (started get_row (input_value state) form refl) fs header words (header_refusal caller header) inside))
+      (λ e. admitted-by es set_row fast e idle
+      (λ form part. let before = started set_row (input_value state) form refl in let aligned = part.aligned in let fits = part.fits in omega (arith, aligned, fits, before, past))
+      (λ form put fs header words inside. left-sound limits number state controllers low fs (set_registers caller header words) inside))
+
+  by_refusal-sound : (es : List Event) (row : Option Row) (refusal : Option HvStatus) → input_refusal limits.pages row (input_value state) input output ≡ refusal → IfSome row (IsAdmitted es) → phase_of es ≡ Idle → Sound limits IsOver es (by_refusal caller row refusal)
+  by_refusal-sound es row (Some status) e h idle = idle
+  by_refusal-sound es None None e h idle = idle
+  by_refusal-sound es (Some row) None e h idle = h e
 
   hypercall-sound : (es : List Event) → phase_of es ≡ Idle → Sound limits IsOver es (hypercall_tree caller)
   hypercall-sound es idle =
-      let value = input_value state in
-      let row = row_of (code_in value) in
-      Sound-cond limits IsOver es (privilege_of state == 0) (by_refusal caller row (input_refusal limits.pages row value (input_address state))) (Ends _) (λ _. by_refusal-sound es row (input_refusal limits.pages row value (input_address state)) refl idle) idle
+      let row = row_of (code_in (input_value state)) in
+      let refusal = input_refusal limits.pages row (input_value state) input output in
+      Sound-cond limits IsOver es (privilege_of state == 0) (by_refusal caller row refusal) (Ends _) (λ _. by_refusal-sound es row refusal refl (admitted-sound es (code_in (input_value state)) idle) idle) idle
 
 -- whatever was found in words of pending vectors
 polls-sound : (limits : Limits) (es : List Event) (rest : List ℕ → Tree Outcome) → ((fs : List Event) (found : List ℕ) → phase_of fs ≡ Idle → Sound limits IsOver fs (rest found)) → phase_of es ≡ Idle → Sound limits IsOver es (takes vector_words [] rest)
@@ -375,6 +493,8 @@ attempt-sound limits number state controllers (Load name gva) es low idle = by_a
 attempt-sound limits number state controllers (Store gva what) es low idle = by_access-sound limits number state controllers low (goal_of limits.pages state Write true gva.0 (operand state what)) refl es (passed state) idle
 attempt-sound limits number state controllers (Exec gva) es low idle = by_access-sound limits number state controllers low (goal_of limits.pages state Execute false gva.0 0) refl es (passed state) idle
 attempt-sound limits number state controllers (Spin gva value) es low idle = by_access-sound limits number state controllers low (goal_of limits.pages state Read true gva.0 0) refl es (spun state value) idle
+attempt-sound limits number state controllers (Set name value) es low idle = set_tree-sound limits number state controllers low es name value idle
+attempt-sound limits number state controllers (Get name) es low idle = get_tree-sound limits number state controllers low es name idle
 attempt-sound limits number state controllers Hypercall es low idle = hypercall-sound limits number state controllers low es idle
 attempt-sound limits number state controllers VtlCall es low idle =
     Sound-cond limits IsOver es (may_call state) (in_own_access (told_on (assist_page limits.pages state) by_call) _) (Ends _) (λ _. told-sound limits number state controllers low es (assist_page limits.pages state) by_call _ (assist-there limits.pages state) idle) idle

@@ -1,6 +1,7 @@
 -- The attempt of an operation. An operation that isn't built yet is an undefined one.
-use Rattle.std.specs.Prelude.{ℕ, ◌/◌, ◌%◌, ◌^◌, ◌==◌, ◌&&◌, Bool, true, false, if◌then◌else◌, is_some, List, [], ◌∷◌, ◌++◌, Option, Some, None}
+use Rattle.std.specs.Prelude.{ℕ, ◌+◌, ◌*◌, ◌/◌, ◌%◌, ◌^◌, ◌==◌, ◌&&◌, Bool, true, false, if◌then◌else◌, is_some, List, [], ◌∷◌, ◌++◌, Option, Some, None}
 use Rattle.vsm_base.specs.Masks.{allows, need}
+use Rattle.vsm_base.specs.declared.name.Name.{Name}
 use Rattle.vsm_base.specs.declared.name.Name.TheVariants as names
 use Rattle.vsm_base.specs.declared.places.Access.{Access}
 use Rattle.vsm_base.specs.declared.places.Access.TheVariants.{Read, Write, Execute}
@@ -13,22 +14,27 @@ use Rattle.vsm_core.specs.declared.mark.GuestFault.TheVariants.{Undefined}
 use Rattle.vsm_core.specs.declared.mark.Posted.{Posted}
 use Rattle.vsm_core.specs.declared.mark.Posted.TheVariants.{Held}
 use Rattle.vsm_core.specs.declared.mark.What.{What}
-use Rattle.vsm_core.specs.declared.mark.What.TheVariants.{Denied, Reply, Entered, Plain, Eom}
+use Rattle.vsm_core.specs.declared.mark.What.TheVariants.{Denied, Hit, Part, Reply as Result, Entered, Plain, Eom}
 use Rattle.vsm_core.specs.declared.note.Note.{Note}
 use Rattle.vsm_core.specs.declared.operation.Op.{Op}
 use Rattle.vsm_core.specs.declared.operation.Op.TheVariants.{Set, Get, Load, Store, Exec, Spin, Jump, JumpNe, Hypercall, VtlCall, VtlReturn, Poll, Ack, Eoi}
 use Rattle.vsm_core.specs.declared.operation.Op.TheVariants as ops
+use Rattle.vsm_core.specs.declared.request.Reply.{Reply}
 use Rattle.vsm_core.specs.Access.{Goal, Decision, Grants, Denies, Faults, access, start_fault}
 use Rattle.vsm_core.specs.Calls.{Row, row_of, code_in, is_fast}
-use Rattle.vsm_core.specs.Controllers.{Controllers, message_page, post_steps, eom_steps, vector_words, with_taken}
+use Rattle.vsm_core.specs.Controllers.{Controllers, writes, message_page, post_steps, eom_steps, vector_words, with_taken}
 use Rattle.vsm_core.specs.Fills.{Cached}
-use Rattle.vsm_core.specs.Hypercalls.{input_value, input_address, fast_words, input_refusal, request_of, refused_call, replied}
-use Rattle.vsm_core.specs.Outcomes.{Origin, Outcome, Refusal, faulted, plain, outcome_at, fills, loaded, passed, spun, set_outcome, get_outcome, jumped, note_of, held_outcome, denied_outcome, ack_outcome, eoi_outcome, eom_outcome}
-use Rattle.vsm_core.specs.Registers.{get as get_in}
-use Rattle.vsm_core.specs.State.{State, gone_to, gone_on, word_of, privilege_of, operand}
+use Rattle.vsm_core.specs.Hypercalls.{input_value, input_address, output_address, has_output, fast_words, input_refusal, request_of, look_request, refused_call, replied, result_outcome}
+use Rattle.vsm_core.specs.Outcomes.{Origin, Outcome, Refusal, faulted, plain, outcome_at, fills, loaded, passed, spun, set_outcome, get_outcome, jumped, note_of, register_note, held_outcome, denied_outcome, hit_outcome, ack_outcome, eoi_outcome, eom_outcome}
+use Rattle.vsm_core.specs.RegisterCalls.{count_of, start_of, past_of, header_refusal, value_words, is_look, set_registers, slice_numbers, slice_output, got_slice}
+use Rattle.vsm_core.specs.Registers.{is_legal, get as get_in}
+use Rattle.vsm_core.specs.Reps.{first_word, words_between}
+use Rattle.vsm_core.specs.State.{State, get, gone_to, gone_on, may_name, word_of, privilege_of, operand}
 use Rattle.vsm_core.specs.Switch.{may_call, may_return, may_enter, called, returned, entered, is_zero, assist_page, restored_from, reason_index, rax_index, rcx_index, by_call, by_interrupt, entry_word}
 use Rattle.vsm_core.specs.Tree.{Tree, Ends, Asks, Wants, WordStep, Entering, Checking, Masking, Reading, Writing, Leaving, then_, asks_all, takes, reads}
+use Rattle.vsm_core.specs.Targets.{target_level}
 use Rattle.vsm_core.specs.Vectors.{deliverable}
+use Rattle.vsm_core.specs.Watches.{watched_in, hits_write, hits_read}
 
 -- an access that has begun ends by its leave
 abbrev pub left_with : Outcome → Tree Outcome
@@ -37,6 +43,10 @@ left_with o = Asks Leaving (λ _. Ends o)
 -- memory words are touched in an access of their own: it is entered and checked before
 abbrev pub in_access : {A : Type 0} → Tree A → Tree A
 in_access tree = Asks Entering (λ _. Asks Checking (λ _. tree))
+
+-- the same, and it goes on by the generation that was checked
+abbrev pub in_access_from : {A : Type 0} → (ℕ → Tree A) → Tree A
+in_access_from by_generation = Asks Entering (λ _. Asks Checking by_generation)
 
 -- these steps in an access of their own, where there are any
 abbrev pub in_own_access : List WordStep → Outcome → Tree Outcome
@@ -70,6 +80,20 @@ abbrev pub refused : Origin → Option ℕ → Refusal → List Cached → Tree 
 refused from gva r does =
     if may_enter from.state then by_slot (message_page from.pages from.state) (tells from r (note_of from gva r) does)
     else left_with (held_outcome from r does)
+
+-- level 1 is told of a register that it intercepts and entered
+abbrev pub hit_tells : Origin → Note → Option ℕ → Tree Outcome
+hit_tells from note slot =
+    asks_all (posting from (message_page from.pages from.state) note slot ++ told_on (assist_page from.pages from.state) by_interrupt)
+    (left_with (hit_outcome from note slot))
+
+-- the same in an access of its own, where it touches words; the message slot is looked at where its page is on
+abbrev pub hits_on : Origin → Note → Option ℕ → Tree Outcome
+hits_on from note None = in_own_access (told_on (assist_page from.pages from.state) by_interrupt) (hit_outcome from note None)
+hits_on from note (Some page) = in_access (Asks (Reading page 0) (λ word. hit_tells from note (Some word)))
+
+abbrev pub intercepted : Origin → Note → Tree Outcome
+intercepted from note = hits_on from note (message_page from.pages from.state)
 
 -- an access comes to its end: where it was granted, to what the operation makes of the grant
 abbrev pub leaves : Origin → ℕ → (Grant → What × State) → Decision → Tree Outcome
@@ -159,6 +183,32 @@ abbrev pub eom_tree : Origin → Tree Outcome
 eom_tree from =
     if is_zero from.state.active then Ends (eom_outcome from None) else eom_on from (message_page from.pages from.state) from.controllers.waiting
 
+-- a write of a register is lawful, and level 1 intercepts it
+abbrev pub is_write_hit : Origin → Name → ℕ → Bool
+is_write_hit from name value =
+    may_name from.state name && is_legal name value && may_enter from.state && hits_write (watched_in from.state.registers) name (get from.state name) value
+
+-- the same of a read
+abbrev pub is_read_hit : Origin → Name → Bool
+is_read_hit from name = may_name from.state name && may_enter from.state && hits_read (watched_in from.state.registers) name
+
+abbrev pub set_tree : Origin → Name → ℕ → Tree Outcome
+set_tree from name value = if is_write_hit from name value then intercepted from (register_note from true name value) else Ends (set_outcome from name value)
+
+abbrev pub get_tree : Origin → Name → Tree Outcome
+get_tree from name = if is_read_hit from name then intercepted from (register_note from false name 0) else Ends (get_outcome from name)
+
+-- level 0 is denied a hypercall's page; there is no address of the operation
+abbrev pub by_page_mask : Origin → Access → (address generation : ℕ) → Tree Outcome → ℕ → Tree Outcome
+by_page_mask from kind address generation rest mask =
+    if allows mask kind then rest
+    else refused from None (record { page = address / 4096; mask = mask; generation = generation; access = kind; gpa = address }) []
+
+-- level 0 loads the mask of a hypercall's page; no mask binds level 1
+abbrev pub behind_page_mask : Vtl → Origin → Access → (address generation : ℕ) → Tree Outcome → Tree Outcome
+behind_page_mask Zero from kind address generation rest = Asks (Masking (address / 4096)) (by_page_mask from kind address generation rest)
+behind_page_mask One from kind address generation rest = rest
+
 -- the call is served once its input is known
 abbrev pub requests : Origin → ℕ → List ℕ → Tree Outcome
 requests from code words = Wants (request_of from code words) (λ reply. Ends (replied from reply))
@@ -167,25 +217,56 @@ requests from code words = Wants (request_of from code words) (λ reply. Ends (r
 abbrev pub left_for : Origin → ℕ → List ℕ → Tree Outcome
 left_for from code words = Asks Leaving (λ _. requests from code words)
 
--- the words of the header are read
+-- these words go to the output, from the place of the slice's first element on, and then the access is left
+abbrev pub puts_out : Origin → List ℕ → Outcome → Tree Outcome
+puts_out from words o =
+    asks_all (writes (output_address from.state / 4096) (output_address from.state % 4096 / 8 + 2 * start_of from) words) (left_with o)
+
+-- the value of a partition's register goes to the output in an access of its own
+abbrev pub looked_by : Origin → Reply → Tree Outcome
+looked_by from reply =
+    in_access_from (λ generation. behind_page_mask from.state.active from Write (output_address from.state) generation
+    (puts_out from (value_words reply.value) (result_outcome from from.state reply.status reply.done)))
+
+-- a register of the partition is asked for once the access in which the input was read is left
+abbrev pub looks : Origin → Tree Outcome
+looks from = Asks Leaving (λ _. Wants (look_request from) (looked_by from))
+
+-- a call that gets these registers of a level
+abbrev pub gets_from : Origin → Vtl → List ℕ → Tree Outcome
+gets_from from target numbers =
+    if is_look (count_of from) numbers then looks from
+    else puts_out from (slice_output from target numbers) (got_slice from target numbers)
+
+abbrev pub gets_by : Origin → List ℕ → List ℕ → Option HvStatus → Tree Outcome
+gets_by from header words None = gets_from from (target_level from.state.active header) (slice_numbers from words)
+gets_by from header words (Some status) = left_with (result_outcome from from.state status (start_of from))
+
+-- the input of a call was read: the words of its header and those of its slice
+abbrev pub by_input : Origin → ℕ → List ℕ → List ℕ → Tree Outcome
+by_input from code header words =
+    if code == 0x0050 then gets_by from header words (header_refusal from header)
+    else (if code == 0x0051 then left_with (set_registers from header words) else left_for from code header)
+
+-- the words of the slice are read
+abbrev pub reads_slice : Origin → Row → ℕ → List ℕ → Tree Outcome
+reads_slice from row address header =
+    reads (address / 4096) (address % 4096 / 8 + row.header / 8 + first_word row.element (start_of from)) (words_between row.element (start_of from) (past_of from)) []
+    (by_input from row.code header)
+
+-- the words of the header are read before
 abbrev pub reads_input : Origin → Row → ℕ → Tree Outcome
-reads_input from row address = reads (address / 4096) (address % 4096 / 8) (row.header / 8) [] (left_for from row.code)
+reads_input from row address = reads (address / 4096) (address % 4096 / 8) (row.header / 8) [] (reads_slice from row address)
 
--- level 0 is denied an input whose page it may not read; there is no address of the operation
-abbrev pub by_input_mask : Origin → ℕ → ℕ → Tree Outcome → ℕ → Tree Outcome
-by_input_mask from address generation rest mask =
-    if allows mask Read then rest
-    else refused from None (record { page = address / 4096; mask = mask; generation = generation; access = Read; gpa = address }) []
-
--- level 0 loads the mask of the input's page; no mask binds level 1
-abbrev pub behind_input_mask : Vtl → Origin → ℕ → ℕ → Tree Outcome → Tree Outcome
-behind_input_mask Zero from address generation rest = Asks (Masking (address / 4096)) (by_input_mask from address generation rest)
-behind_input_mask One from address generation rest = rest
+-- the mask of the output's page decides, where there is an output
+abbrev pub behind_output : Origin → Row → (generation : ℕ) → Tree Outcome → Tree Outcome
+behind_output from row generation rest =
+    if has_output row then behind_page_mask from.state.active from Write (output_address from.state) generation rest else rest
 
 -- the input stands in memory
 abbrev pub by_memory : Origin → Row → ℕ → Tree Outcome
 by_memory from row address =
-    Asks Entering (λ _. Asks Checking (λ generation. behind_input_mask from.state.active from address generation (reads_input from row address)))
+    in_access_from (λ generation. behind_page_mask from.state.active from Read address generation (behind_output from row generation (reads_input from row address)))
 
 abbrev pub admitted : Origin → Row → Tree Outcome
 admitted from row =
@@ -200,13 +281,13 @@ by_refusal from (Some row) None = admitted from row
 abbrev pub hypercall_tree : Origin → Tree Outcome
 hypercall_tree from =
     if privilege_of from.state == 0
-    then by_refusal from (row_of (code_in (input_value from.state))) (input_refusal from.pages (row_of (code_in (input_value from.state))) (input_value from.state) (input_address from.state))
+    then by_refusal from (row_of (code_in (input_value from.state))) (input_refusal from.pages (row_of (code_in (input_value from.state))) (input_value from.state) (input_address from.state) (output_address from.state))
     else Ends (faulted from Undefined)
 
 -- the whole attempt of an operation
 abbrev pub attempt : Origin → Op → Tree Outcome
-attempt from (Set name value) = Ends (set_outcome from name value)
-attempt from (Get name) = Ends (get_outcome from name)
+attempt from (Set name value) = set_tree from name value
+attempt from (Get name) = get_tree from name
 attempt from (Load name gva) = by_access from (loaded from.state name) (goal_of from.pages from.state Read true gva.0 0)
 attempt from (Store gva what) = by_access from (passed from.state) (goal_of from.pages from.state Write true gva.0 (operand from.state what))
 attempt from (Exec gva) = by_access from (passed from.state) (goal_of from.pages from.state Execute false gva.0 0)
@@ -227,11 +308,13 @@ abbrev pub most_denied : Posted → ℕ
 most_denied Held = 12
 most_denied _ = 27
 
--- how many steps an attempt may have that came to this; a hypercall reads at most thirty words
+-- how many steps an attempt may have that came to this; a hypercall reads at most thirty-four words
 abbrev pub most_steps_of : What → ℕ
 most_steps_of (Denied denial) = most_denied denial.posted
+most_steps_of (Hit posted) = 18
 most_steps_of (Eom word) = 17
-most_steps_of (Reply value) = 34
+most_steps_of (Part next) = 38
+most_steps_of (Result value) = 38
 most_steps_of _ = 13
 
 abbrev pub most_steps : Outcome → ℕ

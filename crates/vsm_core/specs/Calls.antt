@@ -13,11 +13,13 @@ pub record Row : Type 0 where
   pub element : ℕ
   pub output : ℕ
 
--- the calls there are: EnablePartitionVtl and EnableVpVtl
+-- the calls there are: EnablePartitionVtl, EnableVpVtl, GetVpRegisters and SetVpRegisters
 unfoldable pub rows : List Row
 rows =
     record { code = 0x000D; is_rep = false; may_be_fast = true; header = 16; element = 0; output = 0 } ∷
-    record { code = 0x000F; is_rep = false; may_be_fast = false; header = 240; element = 0; output = 0 } ∷ []
+    record { code = 0x000F; is_rep = false; may_be_fast = false; header = 240; element = 0; output = 0 } ∷
+    record { code = 0x0050; is_rep = true; may_be_fast = false; header = 16; element = 4; output = 16 } ∷
+    record { code = 0x0051; is_rep = true; may_be_fast = false; header = 16; element = 32; output = 0 } ∷ []
 
 -- the call of a code
 unfoldable pub row_of : ℕ → Option Row

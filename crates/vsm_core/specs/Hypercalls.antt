@@ -1,47 +1,61 @@
 -- A hypercall: what refuses it before its first step, what it asks of the partition, and what the reply does (TLFS, Hypercall Interface).
-use Rattle.std.specs.Prelude.{ℕ, ◌+◌, ◌*◌, ◌/◌, ◌%◌, ◌==◌, Bool, not, if◌then◌else◌, nat_le, Option, Some, None, List, [], ◌∷◌, ◌++◌}
+use Rattle.std.specs.Prelude.{ℕ, ◌+◌, ◌*◌, ◌/◌, ◌%◌, ◌==◌, ◌&&◌, Bool, not, if◌then◌else◌, nat_lt, nat_le, Option, Some, None, List, [], ◌∷◌, ◌++◌}
 use Rattle.vsm_base.specs.declared.name.Name.TheVariants as names
 use Rattle.vsm_base.specs.declared.places.Vtl.{Vtl}
 use Rattle.vsm_base.specs.declared.status.HvStatus.{HvStatus}
 use Rattle.vsm_base.specs.declared.status.TheConstants.HvStatus as statuses
 use Rattle.vsm_core.specs.declared.mark.What.TheVariants.{Reply as Result}
 use Rattle.vsm_core.specs.declared.request.PartCall.{PartCall}
-use Rattle.vsm_core.specs.declared.request.PartCall.TheVariants.{EnablePartition, EnableVp}
+use Rattle.vsm_core.specs.declared.request.PartCall.TheVariants.{EnablePartition, EnableVp, ReadStatus}
 use Rattle.vsm_core.specs.declared.request.Reply.{Reply}
 use Rattle.vsm_core.specs.declared.request.Request.{Request}
-use Rattle.vsm_core.specs.Calls.{Row, Check, check, is_fast, count_in, form_checks, first_failed, part_checks, result_value}
+use Rattle.vsm_core.specs.Calls.{Row, Check, check, is_fast, count_in, form_checks, first_failed, result_value}
 use Rattle.vsm_core.specs.Contexts.{with_context}
+use Rattle.vsm_core.specs.Fills.{Cached}
 use Rattle.vsm_core.specs.Outcomes.{Origin, Outcome, outcome_at}
 use Rattle.vsm_core.specs.State.{State, gone_on, put_legal, word_of}
 
--- the input value, the address of the input, and what a fast call has in place of memory
+-- the input value, the addresses of the input and of the output, and what a fast call has in place of memory
 abbrev pub input_value : State → ℕ
 input_value state = word_of state names.Rcx
 
 abbrev pub input_address : State → ℕ
 input_address state = word_of state names.Rdx
 
+abbrev pub output_address : State → ℕ
+output_address state = word_of state names.R8
+
 abbrev pub fast_words : State → List ℕ
 fast_words state = word_of state names.Rdx ∷ word_of state names.R8 ∷ []
 
--- how many bytes the input has in memory
+-- how many bytes the input and the output of all elements have in memory
 abbrev pub input_size : Row → ℕ → ℕ
 input_size row value = row.header + row.element * count_in value
 
--- the checks of where the input stands in memory: it begins at a multiple of 8 and doesn't pass the end of its page, and the page is there
-abbrev pub place_checks : ℕ → Row → ℕ → ℕ → List Check
-place_checks pages row value address =
-    part_checks (address % 4096) (address % 4096 + input_size row value) ++
-    check statuses.INVALID_PARAMETER (nat_le pages (address / 4096)) ∷ []
+abbrev pub output_size : Row → ℕ → ℕ
+output_size row value = row.output * count_in value
+
+abbrev pub has_output : Row → Bool
+has_output row = not (row.output == 0)
+
+-- the checks of where the input stands in memory, and the output, where there is one: each begins at a multiple of 8 and doesn't pass the end of its page, and the page is there
+abbrev pub place_checks : ℕ → Row → ℕ → ℕ → ℕ → List Check
+place_checks pages row value address output =
+    check statuses.INVALID_ALIGNMENT (not (address % 4096 % 8 == 0)) ∷
+    check statuses.INVALID_ALIGNMENT (has_output row && not (output % 4096 % 8 == 0)) ∷
+    check statuses.INVALID_HYPERCALL_INPUT (nat_lt 4096 (address % 4096 + input_size row value)) ∷
+    check statuses.INVALID_HYPERCALL_INPUT (has_output row && nat_lt 4096 (output % 4096 + output_size row value)) ∷
+    check statuses.INVALID_PARAMETER (nat_le pages (address / 4096)) ∷
+    check statuses.INVALID_PARAMETER (has_output row && nat_le pages (output / 4096)) ∷ []
 
 -- all checks of a call that there is, in their order; a fast call has no input in memory
-abbrev pub input_checks : ℕ → Row → ℕ → ℕ → List Check
-input_checks pages row value address = form_checks row value ++ (if is_fast value then [] else place_checks pages row value address)
+abbrev pub input_checks : ℕ → Row → ℕ → ℕ → ℕ → List Check
+input_checks pages row value address output = form_checks row value ++ (if is_fast value then [] else place_checks pages row value address output)
 
 -- what refuses a call before its first step, if something does
-abbrev pub input_refusal : ℕ → Option Row → ℕ → ℕ → Option HvStatus
-input_refusal pages None value address = Some statuses.INVALID_HYPERCALL_CODE
-input_refusal pages (Some row) value address = first_failed (input_checks pages row value address)
+abbrev pub input_refusal : ℕ → Option Row → ℕ → ℕ → ℕ → Option HvStatus
+input_refusal pages None value address output = Some statuses.INVALID_HYPERCALL_CODE
+input_refusal pages (Some row) value address output = first_failed (input_checks pages row value address output)
 
 -- what a call asks of the partition, by its code and the words of its input
 abbrev pub call_of : ℕ → List ℕ → PartCall
@@ -50,12 +64,20 @@ call_of code words = if code == 0x000D then EnablePartition words else EnableVp 
 abbrev pub request_of : Origin → ℕ → List ℕ → Request
 request_of from code words = record { by = record { 0 = from.number }; level = from.state.active; call = call_of code words }
 
+-- the register of the partition that is read
+abbrev pub look_request : Origin → Request
+look_request from = record { by = record { 0 = from.number }; level = from.state.active; call = ReadStatus }
+
 -- a call's result goes to RAX, and the program goes on
 abbrev pub with_result : State → ℕ → State
 with_result state value = gone_on (put_legal state names.Rax value)
 
+-- and this is done to the cached translations
+abbrev pub result_with : Origin → State → List Cached → HvStatus → ℕ → Outcome
+result_with from state does status done = outcome_at from (Result (result_value status done)) (with_result state (result_value status done)) does
+
 abbrev pub result_outcome : Origin → State → HvStatus → ℕ → Outcome
-result_outcome from state status done = outcome_at from (Result (result_value status done)) (with_result state (result_value status done)) []
+result_outcome from state status done = result_with from state [] status done
 
 -- a call that is refused before its first step
 abbrev pub refused_call : Origin → HvStatus → Outcome

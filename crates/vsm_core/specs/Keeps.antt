@@ -1,5 +1,5 @@
 -- What attempts leave as it was.
-use Rattle.std.specs.Prelude.{◌≡◌, ◌≢◌, ℕ, List, [], ◌∷◌}
+use Rattle.std.specs.Prelude.{◌≡◌, ◌≢◌, ℕ, Some, List, [], ◌∷◌}
 use Rattle.vsm_base.specs.declared.name.Name.{Name}
 use Rattle.vsm_base.specs.declared.name.Name.TheVariants as names
 use Rattle.vsm_base.specs.declared.places.Vtl.{Vtl}
@@ -7,8 +7,11 @@ use Rattle.vsm_base.specs.declared.places.Vtl.TheVariants.{Zero, One}
 use Rattle.vsm_core.specs.declared.operation.Program.{Program}
 use Rattle.vsm_core.specs.declared.partition_state.PartitionState.{PartitionState}
 use Rattle.vsm_core.specs.declared.request.Reply.{Reply}
+use Rattle.vsm_core.specs.declared.operation.Op.TheVariants.{Hypercall}
+use Rattle.vsm_core.specs.Calls.{code_in}
+use Rattle.vsm_core.specs.Hypercalls.{input_value}
 use Rattle.vsm_core.specs.Outcomes.{Origin, Outcome}
-use Rattle.vsm_core.specs.Processor.{Vp, attempted}
+use Rattle.vsm_core.specs.Processor.{Vp, attempted, operation_at}
 use Rattle.vsm_core.specs.Registers.{get, private_of}
 use Rattle.vsm_core.specs.State.{State}
 use Rattle.vsm_core.specs.Tree.{Tree, Ends, Asks, Wants}
@@ -40,8 +43,13 @@ abbrev pub after_attempts : Program → Vp → List (PartitionState × Flat) →
 after_attempts program v [] = v
 after_attempts program v (e ∷ es) = after_attempts program (attempted program v e.0 e.1).vp es
 
--- each of them begins at the other level, and none enables level 1
+-- level 1 sets no register of level 0 by a call
+abbrev pub SetsNone : Vtl → Program → Vp → Type 0
+SetsNone One program v = Unit {0}
+SetsNone Zero program v = operation_at program v.state ≡ Some Hypercall → code_in (input_value v.state) ≢ 0x0051
+
+-- each of them begins at the other level, none enables level 1, and none sets registers of this level by a call
 abbrev pub IsAway : Vtl → Program → Vp → List (PartitionState × Flat) → Type 0
 IsAway level program v [] = Unit {0}
 IsAway level program v (e ∷ es) =
-    (v.state.active ≡ other_level level) × ((attempted program v e.0 e.1).vp.state.enabled ≡ v.state.enabled) × IsAway level program (attempted program v e.0 e.1).vp es
+    (v.state.active ≡ other_level level) × ((attempted program v e.0 e.1).vp.state.enabled ≡ v.state.enabled) × SetsNone level program v × IsAway level program (attempted program v e.0 e.1).vp es

@@ -1,7 +1,8 @@
 -- What an attempt begins with, and what it comes to.
-use Rattle.std.specs.Prelude.{ℕ, ◌==◌, ◌&&◌, if◌then◌else◌, List, [], ◌∷◌, Option, Some, None}
+use Rattle.std.specs.Prelude.{ℕ, ◌==◌, ◌&&◌, Bool, if◌then◌else◌, List, [], ◌∷◌, Option, Some, None}
 use Rattle.vsm_base.specs.declared.name.Name.{Name}
 use Rattle.vsm_base.specs.declared.name.Name.TheVariants as names
+use Rattle.vsm_base.specs.Names.{number_of}
 use Rattle.vsm_base.specs.declared.places.Access.{Access}
 use Rattle.vsm_base.specs.declared.places.Limits.{Limits}
 use Rattle.vsm_base.specs.declared.places.Vtl.{Vtl}
@@ -12,9 +13,9 @@ use Rattle.vsm_core.specs.declared.mark.GuestFault.TheVariants.{Gp}
 use Rattle.vsm_core.specs.declared.mark.Posted.{Posted}
 use Rattle.vsm_core.specs.declared.mark.Posted.TheVariants.{Held}
 use Rattle.vsm_core.specs.declared.mark.What.{What}
-use Rattle.vsm_core.specs.declared.mark.What.TheVariants.{Granted, Again, Denied, Fault, Value, Plain, Eom}
+use Rattle.vsm_core.specs.declared.mark.What.TheVariants.{Granted, Again, Denied, Fault, Hit, Value, Plain, Eom}
 use Rattle.vsm_core.specs.declared.note.Note.{Note}
-use Rattle.vsm_core.specs.declared.note.Note.TheVariants.{Memory}
+use Rattle.vsm_core.specs.declared.note.Note.TheVariants.{Memory, Register}
 use Rattle.vsm_core.specs.Controllers.{Controllers, vectors_at, with_vectors, noted, posted_by, eom_by, waiting_then}
 use Rattle.vsm_core.specs.Fills.{Fill, Cached, Filled, Emptied}
 use Rattle.vsm_core.specs.Registers.{is_legal}
@@ -22,16 +23,17 @@ use Rattle.vsm_core.specs.State.{State, get, put, put_legal, gone_to, gone_on, r
 use Rattle.vsm_core.specs.Switch.{entered, is_zero}
 use Rattle.vsm_core.specs.Vectors.{deliverable, acknowledged, ended}
 
--- what an attempt begins with: how many pages there are, the number of its processor, the processor's state, and what its interrupt controllers hold
+-- what an attempt begins with: how many pages and processors there are, the number of its processor, the processor's state, and what its interrupt controllers hold
 pub record Origin : Type 0 where
   pub pages : ℕ
+  pub vps : ℕ
   pub number : ℕ
   pub state : State
   pub controllers : Controllers
 
 -- the origin of an attempt of the processor of this number, under these limits
 abbrev pub origin_in : Limits → ℕ → State → Controllers → Origin
-origin_in limits number state controllers = record { pages = limits.pages; number = number; state = state; controllers = controllers }
+origin_in limits number state controllers = record { pages = limits.pages; vps = limits.vps; number = number; state = state; controllers = controllers }
 
 -- what an attempt came to, the state and the controllers after it, and what it did to the cached translations
 pub record Outcome : Type 0 where
@@ -121,6 +123,26 @@ denied_to from r note posted does =
 -- the same where the message slot has this first word
 abbrev pub denied_outcome : Origin → Refusal → Note → Option ℕ → List Cached → Outcome
 denied_outcome from r note slot does = denied_to from r note (posted_by slot from.controllers.waiting) does
+
+-- what level 1 is told of a register that it intercepts: whether it was to be written, and with which value
+abbrev pub register_note : Origin → Bool → Name → ℕ → Note
+register_note from write name value = Register (record {
+  vp = record { 0 = from.number };
+  write = write;
+  cs = get from.state names.Cs;
+  rip = rip_of from.state;
+  rflags = word_of from.state names.Rflags;
+  name = number_of name;
+  value = value;
+})
+
+-- level 1 intercepts a register: nothing changes, the note goes to the slot or waits, and level 1 is entered
+abbrev pub hit_to : Origin → Note → Posted → Outcome
+hit_to from note posted = record { what = Hit posted; state = entered from.state; controllers = noted from.controllers posted note; does = [] }
+
+-- the same where the message slot has this first word
+abbrev pub hit_outcome : Origin → Note → Option ℕ → Outcome
+hit_outcome from note slot = hit_to from note (posted_by slot from.controllers.waiting)
 
 -- the active level's vector that is delivered next
 abbrev pub next_vector : Origin → Option ℕ

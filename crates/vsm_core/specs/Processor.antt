@@ -1,5 +1,5 @@
 -- A processor: its registers, its marks, its events and its ending.
-use Rattle.std.specs.Prelude.{◌≡◌, ℕ, ◌+◌, ◌-◌, ◌≤◌, ◌==◌, Bool, true, false, if◌then◌else◌, nat_lt, List, [], ◌∷◌, ◌++◌, fold, map, take, drop, length, Option, Some, None, slice_get}
+use Rattle.std.specs.Prelude.{◌≡◌, ℕ, ◌+◌, ◌-◌, ◌≤◌, ◌==◌, Bool, true, false, if◌then◌else◌, nat_lt, List, [], ◌∷◌, ◌++◌, map, take, drop, length, Option, Some, None, slice_get}
 use Rattle.vsm_base.specs.declared.places.Limits.{Limits}
 use Rattle.vsm_base.specs.declared.places.Vtl.{Vtl}
 use Rattle.vsm_base.specs.declared.places.Vtl.TheVariants.{Zero, One}
@@ -17,20 +17,22 @@ use Rattle.vsm_core.specs.declared.operation.Op.{Op}
 use Rattle.vsm_core.specs.declared.operation.Program.{Program}
 use Rattle.vsm_core.specs.declared.journal.Entry.{Entry}
 use Rattle.vsm_core.specs.declared.partition_state.PartitionState.{PartitionState}
+use Rattle.vsm_core.specs.declared.request.Heard.{Heard}
+use Rattle.vsm_core.specs.declared.request.Reply.{Reply}
 use Rattle.vsm_core.specs.declared.request.Request.{Request}
-use Rattle.vsm_core.specs.Served.{answer, block}
+use Rattle.vsm_core.specs.Served.{answer, after, block}
 use Rattle.vsm_core.specs.State.{State, rip_of, opening_state}
-use Rattle.vsm_core.specs.Steps.{learned}
-use Rattle.vsm_core.specs.Tree.{Tree, Ends, Asks, Wants, follow}
+use Rattle.vsm_core.specs.Steps.{learned, made}
+use Rattle.vsm_core.specs.Tree.{Tree, Ends, Asks, Wants, WordStep, followed}
 use Rattle.vsm_core.specs.Attempt.{attempt, most_steps_of}
 use Rattle.vsm_core.specs.Controllers.{Controllers, opening_controllers}
 use Rattle.vsm_core.specs.Outcomes.{Origin, Outcome, faulted, origin_in}
-use Rattle.vsm_core.specs.Whole.{Flat, Stop, run_on}
+use Rattle.vsm_core.specs.Whole.{Flat, answer_in, flat_after}
 
 -- a processor: what it was made with, its state, what its interrupt controllers hold, the operation that it keeps on with, what it has left, and its ending.
 -- The events of the attempt under way are those seen from `first` on. The events from `part` to `first` are of a spin's
 -- last attempt that found another value. Its mark is the last one as long as `again` holds. While it `owes`, it waits for
--- the reply to the request of its attempt
+-- the reply to the request of its attempt; that reply is kept while the attempt goes on
 pub record Vp : Type 0 where
   pub number : ℕ
   pub limits : Limits
@@ -47,6 +49,7 @@ pub record Vp : Type 0 where
   pub again : Bool
   pub spins : ℕ
   pub owes : Bool
+  pub heard : Option Heard
   pub ended : Option Ending
 
 -- how many reads of spins may find another value
@@ -113,6 +116,7 @@ opening number limits started zero_length one_length = record {
   again = false;
   spins = 0;
   owes = false;
+  heard = None;
   ended = if started then ran_out zero_length limits.budget 0 0 else None;
 }
 
@@ -147,6 +151,7 @@ marked v o = record v {
   part = length v.seen;
   first = length v.seen;
   again = false;
+  heard = None;
   ended = ending_after v o.what o.state (length (standing v) + 1) v.spins;
 }
 
@@ -190,8 +195,8 @@ settled (Wants q k) v = v
 abbrev pub asking : Option Op → Vp → Vp
 asking op v = record v { op = op; marks = standing v; again = false; owes = true }
 
-abbrev pub answered : Vp → Vp
-answered v = record v { owes = false }
+abbrev pub answered : Reply → Vp → Vp
+answered reply v = record v { owes = false; heard = Some (record { after = length v.seen - v.first; reply = reply }) }
 
 -- what an attempt of the processor begins with
 abbrev pub origin_of : Vp → Origin
@@ -207,7 +212,7 @@ answers_of seen first = map learned (drop first seen)
 
 -- what is left of the attempt of this operation
 abbrev pub rest_of : Vp → Option Op → Tree Outcome
-rest_of v op = follow (tree_of (origin_of v) op) (answers_of v.seen v.first)
+rest_of v op = followed (tree_of (origin_of v) op) v.heard (answers_of v.seen v.first)
 
 -- a processor and the words on which it works, and the requests of its attempt that were served, each with its entries
 pub record Did (W : Type 0) : Type 0 where
@@ -215,19 +220,23 @@ pub record Did (W : Type 0) : Type 0 where
   pub words : W
   pub served : List (Request × List Entry)
 
--- the attempt has come to its end, or its request is served by this partition at once and it comes to its end by the reply
-abbrev pub did_at : {W : Type 0} → PartitionState → Vp → W → Tree Outcome → Did W
-did_at s v words (Ends o) = record { vp = settled (Ends o) v; words = words; served = [] }
-did_at s v words (Asks step k) = record { vp = v; words = words; served = [] }
-did_at s v words (Wants q k) = record { vp = settled (k (answer s q)) v; words = words; served = (q, block s q) ∷ [] }
+-- this request was served before
+abbrev pub served_first : {W : Type 0} → Request → List Entry → Did W → Did W
+served_first q block did = record { vp = did.vp; words = did.words; served = (q, block) ∷ did.served }
 
-abbrev pub did_stop : {W : Type 0} → PartitionState → Option Op → Vp → Stop Outcome W → Did W
-did_stop s op v stop = did_at s (fold (saw op) v stop.events) stop.words stop.at
+-- over words that answer and change so: what is left of an attempt is done at once, each step by the words as they stand,
+-- and each request is served by the partition as the requests before it leave it
+module _ {W : Type 0} (answers : W → WordStep → ℕ) (changes : W → WordStep → W) where
+  abbrev pub does_all : PartitionState → Option Op → Vp → W → Tree Outcome → Did W
+  does_all s op v words (Ends o) = record { vp = settled (Ends o) v; words = words; served = [] }
+  does_all s op v words (Asks step k) =
+      does_all s op (saw op v (made step (answers words step))) (changes words step) (k (answers words step))
+  does_all s op v words (Wants q k) = served_first q (block s q) (does_all (after s q) op (answered (answer s q) (asking op v)) words (k (answer s q)))
 
 -- the whole attempt of the operation where its program stands, at once
 unfoldable pub attempted : Program → Vp → PartitionState → Flat → Did Flat
 attempted program v s flat =
-    did_stop s (operation_at program v.state) v (run_on v.limits v.number flat (tree_of (origin_of v) (operation_at program v.state)))
+    does_all (answer_in v.limits v.number) (flat_after v.limits v.number) s (operation_at program v.state) v flat (tree_of (origin_of v) (operation_at program v.state))
 
 -- the marks that a processor has left since it was so
 abbrev pub new_marks : Vp → Vp → List Mark

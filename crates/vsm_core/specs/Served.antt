@@ -7,12 +7,13 @@ use Rattle.vsm_base.specs.declared.status.HvStatus.{HvStatus}
 use Rattle.vsm_base.specs.declared.status.TheConstants.HvStatus as statuses
 use Rattle.vsm_core.specs.Calls.{first_failed}
 use Rattle.vsm_core.specs.Partition.{standing, named, index_of, enable_partition_checks, enable_vp_checks}
+use Rattle.vsm_core.specs.Status.{partition_status}
 use Rattle.vsm_core.specs.declared.journal.Entry.{Entry}
 use Rattle.vsm_core.specs.declared.journal.Entry.TheVariants as entries
 use Rattle.vsm_core.specs.declared.partition_state.PartitionState.{PartitionState}
 use Rattle.vsm_core.specs.declared.partition_state.Standing.{Standing}
 use Rattle.vsm_core.specs.declared.request.PartCall.{PartCall}
-use Rattle.vsm_core.specs.declared.request.PartCall.TheVariants.{EnablePartition, EnableVp}
+use Rattle.vsm_core.specs.declared.request.PartCall.TheVariants.{EnablePartition, EnableVp, ReadStatus}
 use Rattle.vsm_core.specs.declared.request.Reply.{Reply}
 use Rattle.vsm_core.specs.declared.request.Request.{Request}
 
@@ -53,11 +54,20 @@ enable_vp s by vp context = record {
   after = record s { vps = slice_set s.vps vp (leveled (vp == by.0) (standing s vp) context) };
 }
 
+-- a register of the partition is read, and nothing changes
+abbrev pub look : PartitionState → VpIndex → Service
+look s by = record {
+  block = entries.Look by ∷ [];
+  reply = record { status = statuses.SUCCESS; done = 1; value = partition_status s.enabled; context = None };
+  after = s;
+}
+
 -- a call that isn't built yet is one that there isn't
 abbrev pub serve_call : PartitionState → VpIndex → Vtl → PartCall → Service
 serve_call s by level (EnablePartition words) = judged s by (first_failed (enable_partition_checks s words)) (enable_partition s by)
 serve_call s by level (EnableVp words) =
     judged s by (first_failed (enable_vp_checks s by.0 level (named by.0 (index_of words)) words (drop 2 words))) (enable_vp s by (named by.0 (index_of words)) (drop 2 words))
+serve_call s by level ReadStatus = look s by
 serve_call s by level _ = refused s by statuses.INVALID_HYPERCALL_CODE
 
 abbrev pub serve : PartitionState → Request → Service

@@ -1,6 +1,7 @@
 -- What is left of an attempt, as a tree.
-use Rattle.std.specs.Prelude.{ℕ, zero, suc, ◌≤◌, List, [], ◌∷◌, ◌++◌}
+use Rattle.std.specs.Prelude.{ℕ, zero, suc, ◌≤◌, List, [], ◌∷◌, ◌++◌, take, drop, Option, Some, None}
 use Rattle.vsm_core.specs.declared.event.PendingWord.{PendingWord}
+use Rattle.vsm_core.specs.declared.request.Heard.{Heard}
 use Rattle.vsm_core.specs.declared.request.Request.{Request}
 use Rattle.vsm_core.specs.declared.request.Reply.{Reply}
 
@@ -38,6 +39,17 @@ after (Wants q k) x = Wants q k
 abbrev pub follow : {A : Type 0} → Tree A → List ℕ → Tree A
 follow t [] = t
 follow t (x ∷ xs) = follow (after t x) xs
+
+-- what is left once its request had this reply
+abbrev pub by_reply : {A : Type 0} → Tree A → Reply → Tree A
+by_reply (Ends a) r = Ends a
+by_reply (Asks s k) r = Asks s k
+by_reply (Wants q k) r = k r
+
+-- what is left after these answers of words and, in its place among them, the reply that was had, if there was one
+abbrev pub followed : {A : Type 0} → Tree A → Option Heard → List ℕ → Tree A
+followed t None xs = follow t xs
+followed t (Some h) xs = follow (by_reply (follow t (take h.after xs)) h.reply) (drop h.after xs)
 
 -- these steps, which teach nothing, and then the rest
 abbrev pub asks_all : {A : Type 0} → List WordStep → Tree A → Tree A

@@ -1,12 +1,10 @@
--- A whole attempt at once, over a list of masks, a generation, a list of posted words and a list of memory words.
-use Rattle.std.specs.Prelude.{ℕ, ◌+◌, ◌*◌, List, [], ◌∷◌, bit_or, slice_index, slice_set}
+-- What a whole attempt works on at once: a list of masks, a generation, a list of posted words and a list of memory words.
+use Rattle.std.specs.Prelude.{ℕ, ◌+◌, ◌*◌, List, bit_or, slice_index, slice_set}
 use Rattle.vsm_base.specs.declared.places.Limits.{Limits}
 use Rattle.vsm_base.specs.Levels.{level_number}
-use Rattle.vsm_core.specs.declared.event.Event.{Event}
 use Rattle.vsm_core.specs.declared.event.PendingWord.{PendingWord}
 use Rattle.vsm_core.specs.declared.event.PendingWord.TheVariants.{Start, Vectors}
-use Rattle.vsm_core.specs.Steps.{made}
-use Rattle.vsm_core.specs.Tree.{Tree, Ends, Asks, Wants, WordStep, Entering, Checking, Masking, Reading, Writing, Leaving, Posting, Taking}
+use Rattle.vsm_core.specs.Tree.{WordStep, Entering, Checking, Masking, Reading, Writing, Leaving, Posting, Taking}
 
 -- the place of a memory word among all words of memory
 abbrev pub memory_place : ℕ → ℕ → ℕ
@@ -45,20 +43,3 @@ flat_after limits p flat (Writing page index value) = record flat { memory = sli
 flat_after limits p flat (Posting vp word bits) = with_posted flat (posted_place limits vp word) (bit_or (slice_index flat.posted (posted_place limits vp word)) bits)
 flat_after limits p flat (Taking word) = with_posted flat (posted_place limits p word) 0
 flat_after limits p flat _ = flat
-
--- where an attempt stops, its events on the way there, oldest first, and the words then
-pub record Stop (A W : Type 0) : Type 0 where
-  pub at : Tree A
-  pub events : List Event
-  pub words : W
-
--- one event before
-abbrev pub later : {A W : Type 0} → Event → Stop A W → Stop A W
-later e stop = record { at = stop.at; events = e ∷ stop.events; words = stop.words }
-
--- the steps of a processor up to the end of its attempt or to its next request
-abbrev pub run_on : {A : Type 0} → Limits → ℕ → Flat → Tree A → Stop A Flat
-run_on limits p flat (Ends a) = record { at = Ends a; events = []; words = flat }
-run_on limits p flat (Asks s k) =
-    later (made s (answer_in limits p flat s)) (run_on limits p (flat_after limits p flat s) (k (answer_in limits p flat s)))
-run_on limits p flat (Wants q k) = record { at = Wants q k; events = []; words = flat }

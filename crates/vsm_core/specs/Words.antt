@@ -1,9 +1,8 @@
 -- All shared words in one list, and an attempt's steps on them.
-use Rattle.std.specs.Prelude.{◌≡◌, ℕ, ◌+◌, ◌*◌, List, [], bit_or, slice_index, slice_set, take, drop}
+use Rattle.std.specs.Prelude.{◌≡◌, ℕ, ◌+◌, ◌*◌, List, bit_or, slice_index, slice_set, take, drop}
 use Rattle.vsm_base.specs.declared.places.Limits.{Limits}
-use Rattle.vsm_core.specs.Steps.{made}
-use Rattle.vsm_core.specs.Tree.{Tree, Ends, Asks, Wants, WordStep, Entering, Checking, Masking, Reading, Writing, Leaving, Posting, Taking}
-use Rattle.vsm_core.specs.Whole.{Flat, Stop, later, memory_place, posted_place}
+use Rattle.vsm_core.specs.Tree.{WordStep, Entering, Checking, Masking, Reading, Writing, Leaving, Posting, Taking}
+use Rattle.vsm_core.specs.Whole.{Flat, memory_place, posted_place}
 
 -- the places of the parts, in this order: a mask for each page, the generation, for each processor a busy word, a
 -- start word and eight words of pending vectors, and the memory
@@ -61,22 +60,9 @@ words_by limits p words (Posting vp word bits) = with_word limits p words (Posti
 words_by limits p words (Taking word) = with_word limits p words (Taking word) 0
 words_by limits p words _ = words
 
--- the steps of a processor up to the end of its attempt or to its next request
-abbrev pub steps_on : {A : Type 0} → Limits → ℕ → List ℕ → Tree A → Stop A (List ℕ)
-steps_on limits p words (Ends a) = record { at = Ends a; events = []; words = words }
-steps_on limits p words (Asks s k) =
-    later (made s (answer_of limits p words s)) (steps_on limits p (words_by limits p words s) (k (answer_of limits p words s)))
-steps_on limits p words (Wants q k) = record { at = Wants q k; events = []; words = words }
-
 -- the words have these masks, this generation, these posted words and this memory
 pub record Holds (limits : Limits) (words : List ℕ) (flat : Flat) : Type 0 where
   pub of_masks : take limits.pages words ≡ flat.masks
   pub of_generation : slice_index words (generation_at limits) ≡ flat.generation
   pub of_posted : take (9 * limits.vps) (drop (posted_at limits) words) ≡ flat.posted
   pub of_memory : drop (memory_at limits) words ≡ flat.memory
-
--- the steps on all words and the whole attempt at once come to the same end by the same events, and what the words hold then is what the attempt leaves
-pub record SameStop {A : Type 0} (limits : Limits) (steps : Stop A (List ℕ)) (whole : Stop A Flat) : Type 0 where
-  pub at : steps.at ≡ whole.at
-  pub events : steps.events ≡ whole.events
-  pub holds : Holds limits steps.words whole.words

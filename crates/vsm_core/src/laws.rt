@@ -1,13 +1,20 @@
 // Laws of the definitions. Each function's contract is the law; it computes nothing.
-ghost use Rattle.std.specs.Prelude.{ℕ, List, [], ◌∷◌, ◌≡◌, ◌≢◌, ◌<◌, length};
+ghost use Rattle.std.specs.Prelude.{ℕ, List, [], ◌∷◌, ◌≡◌, ◌≢◌, ◌<◌, length, take, Some, None};
 ghost use Rattle.vsm_base.specs.declared.places.Vtl.{Vtl};
 ghost use Rattle.vsm_base.specs.declared.status.HvStatus.{HvStatus};
 ghost use Rattle.vsm_base.specs.declared.status.TheConstants.HvStatus.{SUCCESS};
-ghost use Rattle.vsm_core.specs.Blocks.{IsWhole};
-ghost use Rattle.vsm_core.specs.Hypercalls.{refused_call, replied};
-ghost use Rattle.vsm_core.specs.Keeps.{KeepsTheRest, after_attempts, IsAway};
-ghost use Rattle.vsm_core.specs.Processor.{Vp};
-ghost use Rattle.vsm_core.specs.Registers.{private_of};
+ghost use Rattle.vsm_core.specs.AtOnce.{SameDid};
+ghost use Rattle.vsm_core.specs.Blocks.{IsWhole as IsWholeJournal};
+ghost use Rattle.vsm_core.specs.Hypercalls.{input_value, refused_call, replied};
+ghost use Rattle.vsm_core.specs.Keeps.{EndsIn, KeepsTheRest, after_attempts, IsAway};
+ghost use Rattle.vsm_core.specs.Processor.{Vp, does_all, origin_of};
+ghost use Rattle.vsm_base.specs.declared.name.Name.{Name};
+ghost use Rattle.vsm_base.specs.declared.name.Name.TheVariants.{Rcx};
+ghost use Rattle.vsm_core.specs.Calls.{start_in, count_in};
+ghost use Rattle.vsm_core.specs.Fills.{Cached};
+ghost use Rattle.vsm_core.specs.RegisterCalls.{Setting, all_set, header_refusal, set_refusals, get_refusals, set_slice, set_registers, got_slice, part_outcome};
+ghost use Rattle.vsm_core.specs.Registers.{IsWhole, get, private_of};
+ghost use Rattle.vsm_core.specs.Reps.{acting, refusing};
 ghost use Rattle.vsm_core.specs.Served.{answer, after, block, AreServed, joined};
 ghost use Rattle.vsm_core.specs.declared.journal.Entry.{Entry};
 ghost use Rattle.vsm_core.specs.declared.journal.Entry.TheVariants.{Refuse};
@@ -16,14 +23,14 @@ ghost use Rattle.vsm_core.specs.declared.partition_state.PartitionState.{Partiti
 ghost use Rattle.vsm_core.specs.declared.request.Request.{Request};
 ghost use Rattle.vsm_core.specs.Tree.{Counts};
 ghost use Rattle.vsm_core.specs.State.{State};
-ghost use Rattle.vsm_core.specs.Attempt.{attempt, most_steps};
+ghost use Rattle.vsm_core.specs.Attempt.{attempt, gets_by, most_steps};
 ghost use Rattle.vsm_core.specs.Controllers.{Controllers};
 ghost use Rattle.vsm_core.specs.Outcomes.{Origin, origin_in};
 ghost use Rattle.vsm_core.specs.Sound.{Sound, IsOver};
 ghost use Rattle.vsm_core.specs.Steps.{phase_of};
 ghost use Rattle.vsm_base.specs.declared.places.Limits.{Limits};
-ghost use Rattle.vsm_core.specs.Whole.{Flat, run_on};
-ghost use Rattle.vsm_core.specs.Words.{Holds, SameStop, steps_on};
+ghost use Rattle.vsm_core.specs.Whole.{Flat, answer_in, flat_after};
+ghost use Rattle.vsm_core.specs.Words.{Holds, answer_of, words_by};
 ghost use Rattle.vsm_core.specs.declared.event.Event.{Event};
 ghost use Rattle.vsm_core.specs.declared.event.Phase.TheVariants.{Idle};
 ghost use Rattle.vsm_core.specs.declared.operation.Op.{Op};
@@ -37,16 +44,16 @@ pub fn attempts_are_sound()
 
 /// Whatever the words answer, an attempt has at most thirteen steps, and at most twelve where it is denied without
 /// level 1. Where level 1 is told of a denial, its message and its entry add at most fifteen to these twelve. An end of
-/// message has at most seventeen, and a hypercall at most thirty-four.
+/// message has at most seventeen, an intercepted register eighteen, and a hypercall thirty-eight.
 pub fn attempts_are_short()
     ensures { (from : Origin) (op : Op) → Counts most_steps 0 (attempt from op) }
 {}
 
 /// An attempt whose steps are made one by one on all the shared words comes to what it comes to at once over the
-/// masks, the generation, the posted words and the memory that these words hold.
+/// masks, the generation, the posted words and the memory that these words hold, with the same requests.
 pub fn attempts_are_whole()
-    ensures { (limits : Limits) (p : ℕ) (state : State) (controllers : Controllers) (op : Op) (words : List ℕ) (flat : Flat) → p < limits.vps → Holds limits words flat
-        → SameStop limits (steps_on limits p words (attempt (origin_in limits p state controllers) op)) (run_on limits p flat (attempt (origin_in limits p state controllers) op)) }
+    ensures { (v : Vp) (s : PartitionState) (op : Op) (words : List ℕ) (flat : Flat) → v.number < v.limits.vps → Holds v.limits words flat
+        → SameDid v.limits (does_all (answer_of v.limits v.number) (words_by v.limits v.number) s (Some op) v words (attempt (origin_of v) op)) (does_all (answer_in v.limits v.number) (flat_after v.limits v.number) s (Some op) v flat (attempt (origin_of v) op)) }
 {}
 
 /// A hypercall that is refused before its first step keeps all of its processor but RAX and the active level's Rip.
@@ -61,8 +68,27 @@ pub fn refused_requests_keep_the_rest()
     ensures processor { (from : Origin) (s : PartitionState) (r : Request) → (answer s r).status ≢ SUCCESS → KeepsTheRest from (replied from (answer s r)) }
 {}
 
+/// A call that gets or sets registers and is refused at its header keeps the rest, too. Where it is refused at an element,
+/// it does so but for the registers that the elements before that one have set.
+pub fn refused_elements_keep_the_rest()
+    ensures get_header { (from : Origin) (header words : List ℕ) (status : HvStatus) → EndsIn (KeepsTheRest from) (gets_by from header words (Some status)) }
+    ensures set_header { (from : Origin) (header words : List ℕ) → header_refusal from header ≢ None → KeepsTheRest from (set_registers from header words) }
+    ensures get_element { (from : Origin) (target : Vtl) (numbers : List ℕ) → refusing (get_refusals from target numbers) ≢ None → KeepsTheRest from (got_slice from target numbers) }
+    ensures set_element { (from : Origin) (target : Vtl) (settings : List Setting) → refusing (set_refusals from target settings) ≢ None
+        → KeepsTheRest (record from { state = all_set target from.state (take (acting (set_refusals from target settings)) settings) }) (set_slice from target settings) }
+{}
+
+/// A slice after which elements are left keeps Rip, RAX and all other registers but RCX as its elements have left them. RCX
+/// then is the input value with the next element's index as its start.
+pub fn parts_go_on()
+    ensures registers { (from : Origin) (state : State) (does : List Cached) (next : ℕ) (level : Vtl) (name : Name) → name ≢ Rcx
+        → get (part_outcome from state does next).state.registers level name ≡ get state.registers level name }
+    ensures start { (from : Origin) (state : State) (does : List Cached) (next : ℕ) → IsWhole state.registers → next < 4096 → start_in (input_value (part_outcome from state does next).state) ≡ next }
+    ensures count { (from : Origin) (state : State) (does : List Cached) (next : ℕ) → IsWhole state.registers → next < 4096 → count_in (input_value (part_outcome from state does next).state) ≡ count_in (input_value from.state) }
+{}
+
 /// While a level isn't active its own registers come back as they were, whatever the attempts of the other level do and
-/// whatever is answered, unless level 1 is enabled meanwhile.
+/// whatever is answered, unless level 1 is enabled meanwhile or sets registers of level 0 by a call.
 pub fn levels_keep_their_registers()
     ensures { (level : Vtl) (program : Program) (v : Vp) (attempts : List (PartitionState × Flat)) → IsAway level program v attempts
         → private_of (after_attempts program v attempts).state.registers level ≡ private_of v.state.registers level }
@@ -70,5 +96,5 @@ pub fn levels_keep_their_registers()
 
 /// The journal of requests that were served one after the other is whole: the entries of each are a block of their own.
 pub fn served_journals_are_whole()
-    ensures { (s : PartitionState) (served : List (Request × List Entry)) → AreServed s served → IsWhole (length s.vps) (joined served) }
+    ensures { (s : PartitionState) (served : List (Request × List Entry)) → AreServed s served → IsWholeJournal (length s.vps) (joined served) }
 {}

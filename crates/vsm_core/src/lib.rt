@@ -8,6 +8,7 @@ mod mark;
 mod note;
 mod operation;
 mod partition_state;
+mod register;
 mod request;
 mod view;
 
@@ -15,11 +16,13 @@ pub use event::{Event, PendingWord, Phase};
 pub use journal::Entry;
 pub use laws::{
     attempts_are_short, attempts_are_sound, attempts_are_whole, levels_keep_their_registers,
-    refused_calls_keep_the_rest, refused_requests_keep_the_rest, served_journals_are_whole,
+    parts_go_on, refused_calls_keep_the_rest, refused_elements_keep_the_rest,
+    refused_requests_keep_the_rest, served_journals_are_whole,
 };
 pub use mark::{Denial, Ending, EomWord, Grant, GuestFault, Mark, Posted, What};
 pub use note::{MemNote, Note, RegNote};
 pub use operation::{Op, Operand, Program};
 pub use partition_state::{PartitionState, Standing};
-pub use request::{PartCall, Reply, Request, Served};
+pub use register::CallRegister;
+pub use request::{Heard, PartCall, Reply, Request, Served};
 pub use view::{PartitionView, ProcessorView, Told, Turning, View};

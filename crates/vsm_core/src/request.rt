@@ -53,6 +53,13 @@ pub struct Reply {
     pub context: Option<(Vtl, [u64; 28], Option<[u64; 28]>)>,
 }
 
+/// The reply that an attempt has had, after so many events of its own.
+#[derive(Clone, Copy, Debug, PartialEq, Eq)]
+pub struct Heard {
+    pub after: u32,
+    pub reply: Reply,
+}
+
 /// A request that was served, or the end of a processor.
 #[derive(Debug, Drop)]
 pub enum Served {

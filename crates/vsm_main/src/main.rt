@@ -14,6 +14,12 @@ mod cases;
 #[cfg(test)]
 mod hypercall_cases;
 #[cfg(test)]
+mod intercept_cases;
+#[cfg(test)]
+mod name_cases;
+#[cfg(test)]
+mod register_cases;
+#[cfg(test)]
 mod tests;
 
 fn main(rt: HostRuntime) -> io::Result<ExitCode> {

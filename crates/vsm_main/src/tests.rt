@@ -5,7 +5,7 @@ use std::test::Fail;
 use vsm_base::{MemSink, MemSource, SureSink, SureSource};
 
 // Room for the largest text of these scripts.
-const ROOM: usize = 2500;
+const ROOM: usize = 3500;
 
 fn words(alloc: Global, command: &str) -> Result<Vec<String>, AllocError> {
     let mut words = Vec::new(alloc);
@@ -19,12 +19,20 @@ fn traced(alloc: Global, source: &mut MemSource, sink: &mut MemSink) -> Result<S
 }
 
 #[test]
-fn each_script_gives_the_report_that_was_written_by_hand(rt: HostRuntime) -> Result<(), Fail> {
+fn each_script_gives_the_report_that_was_worked_out_apart_from_the_program(
+    rt: HostRuntime,
+) -> Result<(), Fail> {
     let alloc = rt.alloc();
     let groups = [
         cases::ALL.as_slice(),
         hypercall_cases::CALLS.as_slice(),
         hypercall_cases::REFUSALS.as_slice(),
+        register_cases::REGISTERS.as_slice(),
+        register_cases::SLICES.as_slice(),
+        intercept_cases::INTERCEPTS.as_slice(),
+        name_cases::NAMES_AT_LEVEL_0.as_slice(),
+        name_cases::NAMES_AT_LEVEL_1.as_slice(),
+        name_cases::REFUSALS_AT_LEVEL_1.as_slice(),
     ];
     for group in groups {
         for case in group {

@@ -1,5 +1,5 @@
 -- A processor stays the one that it was made as, at its place in a list.
-use Rattle.std.proofs.Common.{◌≡◌, ◌≢◌, ◌<◌, ◌⊎◌, inl, inr, eqb, ℕ, true, false, Option, Some, None, List, [], ◌∷◌, fold, length, get_or, slice_get, slice_set, refl, sym, ap, ◌∙◌, subst}
+use Rattle.std.proofs.Common.{◌≡◌, ◌≢◌, ◌<◌, ◌⊎◌, inl, inr, eqb, ℕ, true, false, Option, Some, None, List, length, get_or, slice_get, slice_set, refl, sym, ap, ◌∙◌, subst}
 use Rattle.std.proofs.lemmas.Bool.Decides.{eqb_tells}
 use Rattle.std.proofs.lemmas.Grind.{get_or-set_at}
 use Rattle.std.proofs.lemmas.List.{length-set, get_or-set_other}
@@ -12,12 +12,13 @@ use Rattle.vsm_core.specs.declared.mark.What.TheVariants.{Again}
 use Rattle.vsm_core.specs.declared.operation.Op.{Op}
 use Rattle.vsm_core.specs.Outcomes.{Outcome}
 use Rattle.vsm_core.specs.declared.partition_state.PartitionState.{PartitionState}
-use Rattle.vsm_core.specs.Processor.{Vp, IsSameProcessor, saw, came_to, marked_or_ended, settled, did_at, did_stop}
-use Rattle.vsm_core.specs.Served.{answer}
-use Rattle.vsm_core.specs.Tree.{Tree, Ends, Asks, Wants}
-use Rattle.vsm_core.specs.Whole.{Stop}
+use Rattle.vsm_core.specs.declared.request.Reply.{Reply}
+use Rattle.vsm_core.specs.Processor.{Vp, IsSameProcessor, saw, came_to, marked_or_ended, asking, answered, does_all}
+use Rattle.vsm_core.specs.Served.{answer, after}
+use Rattle.vsm_core.specs.Steps.{made}
+use Rattle.vsm_core.specs.Tree.{Tree, Ends, Asks, Wants, WordStep}
 
-same_by : (v u w : Vp) → IsSameProcessor v u → IsSameProcessor u w → IsSameProcessor v w
+pub same_by : (v u w : Vp) → IsSameProcessor v u → IsSameProcessor u w → IsSameProcessor v w
 same_by v u w h g = record {
   number = g.number ∙ h.number;
   limits = g.limits ∙ h.limits;
@@ -26,16 +27,9 @@ same_by v u w h g = record {
   started = g.started ∙ h.started;
 }
 
-itself : (v : Vp) → IsSameProcessor v v
-itself v = record { number = refl; limits = refl; zero_length = refl; one_length = refl; started = refl }
-
 saw-same : (op : Option Op) (v : Vp) (e : Event) → IsSameProcessor v (saw op v e)
 saw-same op v (events.Check generation) = record { number = refl; limits = refl; zero_length = refl; one_length = refl; started = refl }
 saw-same op v _ = record { number = refl; limits = refl; zero_length = refl; one_length = refl; started = refl }
-
-fold-saw-same : (op : Option Op) (v : Vp) (es : List Event) → IsSameProcessor v (fold (saw op) v es)
-fold-saw-same op v [] = itself v
-fold-saw-same op v (e ∷ es) = same_by v (saw op v e) _ (saw-same op v e) (fold-saw-same op (saw op v e) es)
 
 marked_or_ended-same : (v : Vp) (o : Outcome) (ending : Option Ending) → IsSameProcessor v (marked_or_ended v o ending)
 marked_or_ended-same v o None = record { number = refl; limits = refl; zero_length = refl; one_length = refl; started = refl }
@@ -45,20 +39,19 @@ came_to-same : (what : What) (v : Vp) (o : Outcome) → IsSameProcessor v (came_
 came_to-same (Again grant) v o = marked_or_ended-same v o _
 came_to-same _ v o = record { number = refl; limits = refl; zero_length = refl; one_length = refl; started = refl }
 
-settled-same : (t : Tree Outcome) (v : Vp) → IsSameProcessor v (settled t v)
-settled-same (Ends o) v = came_to-same o.what v o
-settled-same (Asks s k) v = itself v
-settled-same (Wants q k) v = itself v
+answered-same : (reply : Reply) (op : Option Op) (v : Vp) → IsSameProcessor v (answered reply (asking op v))
+answered-same reply op v = record { number = refl; limits = refl; zero_length = refl; one_length = refl; started = refl }
 
-did_at-same : {W : Type 0} (s : PartitionState) (v : Vp) (words : W) (t : Tree Outcome) → IsSameProcessor v (did_at s v words t).vp
-did_at-same s v words (Ends o) = settled-same (Ends o) v
-did_at-same s v words (Asks step k) = itself v
-did_at-same s v words (Wants q k) = settled-same (k (answer s q)) v
-
--- whatever an attempt saw and came to
-pub did_stop-same : {W : Type 0} (s : PartitionState) (op : Option Op) (v : Vp) (stop : Stop Outcome W) → IsSameProcessor v (did_stop s op v stop).vp
-did_stop-same s op v stop =
-    let seen = fold (saw op) v stop.events in same_by v seen _ (fold-saw-same op v stop.events) (did_at-same s seen stop.words stop.at)
+-- whatever an attempt asks and is answered
+module _ {W : Type 0} (answers : W → WordStep → ℕ) (changes : W → WordStep → W) (op : Option Op) where
+  pub does_all-same : (s : PartitionState) (v : Vp) (words : W) (t : Tree Outcome) → IsSameProcessor v (does_all answers changes s op v words t).vp
+  does_all-same s v words (Ends o) = came_to-same o.what v o
+  does_all-same s v words (Asks step k) =
+      let x = answers words step in
+      let seen = saw op v (made step x) in same_by v seen _ (saw-same op v (made step x)) (does_all-same s seen (changes words step) (k x))
+  does_all-same s v words (Wants q k) =
+      let reply = answer s q in
+      let heard = answered reply (asking op v) in same_by v heard _ (answered-same reply op v) (does_all-same (after s q) heard words (k reply))
 
 -- what holds of each element by its place holds when one is set for which it holds
 pub places-set : {X : Type 0} (P : ℕ → X → Type 0) (xs : List X) (i : ℕ) (y : X) → P i y → ((j : ℕ) (x : X) → slice_get xs j ≡ Some x → P j x) → (j : ℕ) (x : X) → slice_get (slice_set xs i y) j ≡ Some x → P j x

@@ -1,17 +1,19 @@
 -- What a run serves: each request adds what it adds to the state that those before it leave.
-use Rattle.std.proofs.Common.{ℕ, Bool, true, false, cond, Option, Some, None, List, [], ◌∷◌, ◌++◌, fold, slice_get, refl, subst}
+use Rattle.std.proofs.Common.{ℕ, Bool, true, false, cond, Option, Some, None, List, [], ◌∷◌, ◌++◌, slice_get, refl, subst}
 use Rattle.std.proofs.lemmas.List.FromFn.{length-map-range_with_len}
 use Rattle.vsm_core.specs.declared.journal.Entry.{Entry}
+use Rattle.vsm_core.specs.declared.operation.Op.{Op}
 use Rattle.vsm_core.specs.declared.operation.Program.{Program}
 use Rattle.vsm_core.specs.declared.partition_state.PartitionState.{PartitionState}
 use Rattle.vsm_core.specs.declared.request.Request.{Request}
 use Rattle.vsm_core.specs.Blocks.{IsWhole}
 use Rattle.vsm_core.specs.Outcomes.{Outcome}
 use Rattle.vsm_core.specs.Partition.{opening_standing}
-use Rattle.vsm_core.specs.Processor.{Vp, saw, origin_of, tree_of, operation_at, did_at, attempted}
-use Rattle.vsm_core.specs.Served.{after, state_after, AreServed, joined}
-use Rattle.vsm_core.specs.Tree.{Tree, Ends, Asks, Wants}
-use Rattle.vsm_core.specs.Whole.{Flat, run_on}
+use Rattle.vsm_core.specs.Processor.{Vp, saw, asking, answered, origin_of, tree_of, operation_at, does_all, attempted}
+use Rattle.vsm_core.specs.Served.{answer, after, state_after, AreServed, joined}
+use Rattle.vsm_core.specs.Steps.{made}
+use Rattle.vsm_core.specs.Tree.{Tree, Ends, Asks, Wants, WordStep}
+use Rattle.vsm_core.specs.Whole.{Flat, answer_in, flat_after}
 use Rattle.vsm_core.proofs.ServedBlocks.{served-whole}
 use Rattle.guest_script.specs.declared.script.Script.{Script}
 use Rattle.guest_script.specs.Programs.{program_at}
@@ -23,18 +25,17 @@ served-append : (s : PartitionState) (before more : List (Request × List Entry)
 served-append s [] more h g = g
 served-append s (v ∷ before) more h g = (h.0, served-append (after s v.0) before more h.1 g)
 
--- an attempt serves at most one request
-did_at-served : {W : Type 0} (s : PartitionState) (v : Vp) (words : W) (t : Tree Outcome) → AreServed s (did_at s v words t).served
-did_at-served s v words (Ends o) = tt
-did_at-served s v words (Asks step k) = tt
-did_at-served s v words (Wants q k) = (refl, tt)
+-- the requests of an attempt are served one after the other
+module _ {W : Type 0} (answers : W → WordStep → ℕ) (changes : W → WordStep → W) (op : Option Op) where
+  does_all-served : (s : PartitionState) (v : Vp) (words : W) (t : Tree Outcome) → AreServed s (does_all answers changes s op v words t).served
+  does_all-served s v words (Ends o) = tt
+  does_all-served s v words (Asks step k) = let x = answers words step in does_all-served s (saw op v (made step x)) (changes words step) (k x)
+  does_all-served s v words (Wants q k) = let reply = answer s q in (refl, does_all-served (after s q) (answered reply (asking op v)) words (k reply))
 
 attempted-served : (program : Program) (v : Vp) (s : PartitionState) (flat : Flat) → AreServed s (attempted program v s flat).served
 unfolding attempted
 attempted-served program v s flat =
-    let op = operation_at program v.state in
-    let stop = run_on v.limits v.number flat (tree_of (origin_of v) op) in
-    did_at-served s (fold (saw op) v stop.events) stop.words stop.at
+    let op = operation_at program v.state in does_all-served (answer_in v.limits v.number) (flat_after v.limits v.number) op s v flat (tree_of (origin_of v) op)
 
 module _ (first : PartitionState) where
   abbrev HasServed : World → Type 0

@@ -9,17 +9,14 @@ use Rattle.std.proofs.Math.Seq.{take-append_seam, drop-append_seam, drop-append-
 use Rattle.vsm_base.specs.declared.places.Limits.{Limits}
 use Rattle.vsm_core.specs.declared.operation.Op.{Op}
 use Rattle.vsm_core.specs.declared.operation.Program.{Program}
-use Rattle.vsm_core.specs.State.{State}
-use Rattle.vsm_core.specs.Controllers.{Controllers}
-use Rattle.vsm_core.specs.Outcomes.{Outcome, origin_in}
 use Rattle.vsm_core.specs.declared.journal.Entry.{Entry}
 use Rattle.vsm_core.specs.declared.partition_state.PartitionState.{PartitionState}
 use Rattle.vsm_core.specs.declared.request.Request.{Request}
-use Rattle.vsm_core.specs.Processor.{Vp, Did, saw, origin_of, tree_of, operation_at, did_at, did_stop, attempted}
+use Rattle.vsm_core.specs.AtOnce.{SameDid}
+use Rattle.vsm_core.specs.Processor.{Vp, Did, IsSameProcessor, origin_of, tree_of, operation_at, does_all, attempted}
 use Rattle.vsm_core.specs.Served.{after, state_after, joined}
-use Rattle.vsm_core.specs.Tree.{Tree, Ends, Asks, Wants}
-use Rattle.vsm_core.specs.Whole.{Flat, Stop, run_on}
-use Rattle.vsm_core.specs.Words.{Holds, SameStop, steps_on, memory_at, posted_at}
+use Rattle.vsm_core.specs.Whole.{Flat, answer_in, flat_after}
+use Rattle.vsm_core.specs.Words.{Holds, answer_of, words_by, memory_at, posted_at}
 use Rattle.vsm_core.proofs.SameAnswers.{attempt-same}
 use Rattle.guest_script.specs.declared.script.Turns.{Turns}
 use Rattle.guest_script.specs.declared.script.Script.{Script}
@@ -31,7 +28,7 @@ use Rattle.vsm_report.specs.Opening.{opening_masks, opening_words}
 use Rattle.vsm_report.specs.FlatRun.{World, acted, opening_flat, opened, closed, served, report_of, flat}
 use Rattle.vsm_report.specs.Trace.{Kept, Stepped, after_more, made_steps, stepped, opening_shared, stepped_opening, stepped_report, traced}
 use Rattle.vsm_report.proofs.MaskTurns.{length-fold-with_mask}
-use Rattle.vsm_report.proofs.Processors.{did_stop-same, places-set}
+use Rattle.vsm_report.proofs.Processors.{does_all-same, places-set}
 
 -- what one processor's turns keep of two worlds in which it acts alike
 turns_alike : {V W : Type 0} (R : V → W → Type 0) (f : V → V) (g : W → W) → ((v : V) (w : W) → R v w → R (f v) (g w)) → (count : ℕ) (v : V) (w : W) → R v w → R (after_turns f count v) (after_turns g count w)
@@ -75,58 +72,37 @@ pub record Alike (first : PartitionState) (limits : Limits) (v : Stepped) (w : W
   pub holds : Holds limits v.words w.words
   pub placed : (p : ℕ) (u : Vp) → slice_get w.vps p ≡ Some u → IsPlaced limits p u
 
-tree-same : (limits : Limits) (p : ℕ) (state : State) (controllers : Controllers) (op : Option Op) (words : List ℕ) (flat : Flat) → p < limits.vps → Holds limits words flat
-    → SameStop limits (steps_on limits p words (tree_of (origin_in limits p state controllers) op)) (run_on limits p flat (tree_of (origin_in limits p state controllers) op))
-tree-same limits p state controllers None words flat low h = record { at = refl; events = refl; holds = h }
-tree-same limits p state controllers (Some op) words flat low h = attempt-same limits p state controllers op words flat low h
+-- where a program has no operation, the attempt asks nothing
+tree-same : (v : Vp) (s : PartitionState) (op : Option Op) (words : List ℕ) (flat : Flat) → v.number < v.limits.vps → Holds v.limits words flat
+    → SameDid v.limits (does_all (answer_of v.limits v.number) (words_by v.limits v.number) s op v words (tree_of (origin_of v) op)) (does_all (answer_in v.limits v.number) (flat_after v.limits v.number) s op v flat (tree_of (origin_of v) op))
+tree-same v s None words flat low h = record { vp = refl; served = refl; holds = h }
+tree-same v s (Some op) words flat low h = attempt-same v s op words flat low h
 
 -- two attempts of one processor that come to the same
-record SameDid (limits : Limits) (p : ℕ) (steps : Did (List ℕ)) (whole : Did Flat) : Type 0 where
-  vp : steps.vp ≡ whole.vp
-  served : steps.served ≡ whole.served
-  holds : Holds limits steps.words whole.words
+record SameAttempt (limits : Limits) (p : ℕ) (steps : Did (List ℕ)) (whole : Did Flat) : Type 0 where
+  did : SameDid limits steps whole
   placed : IsPlaced limits p whole.vp
 
--- what it did beside the words is the same whatever the words are
-record SameBeside {V W : Type 0} (d : Did V) (e : Did W) : Type 0 where
-  vp : d.vp ≡ e.vp
-  served : d.served ≡ e.served
-
-did_at-beside : {V W : Type 0} (s : PartitionState) (u : Vp) (v : V) (w : W) (t : Tree Outcome) → SameBeside (did_at s u v t) (did_at s u w t)
-did_at-beside s u v w (Ends o) = record { vp = refl; served = refl }
-did_at-beside s u v w (Asks step k) = record { vp = refl; served = refl }
-did_at-beside s u v w (Wants q k) = record { vp = refl; served = refl }
-
-did_at-words : {W : Type 0} (s : PartitionState) (u : Vp) (w : W) (t : Tree Outcome) → (did_at s u w t).words ≡ w
-did_at-words s u w (Ends o) = refl
-did_at-words s u w (Asks step k) = refl
-did_at-words s u w (Wants q k) = refl
-
-did-same : (limits : Limits) (p : ℕ) (s : PartitionState) (op : Option Op) (v : Vp) (steps : Stop Outcome (List ℕ)) (whole : Stop Outcome Flat) → IsPlaced limits p v → SameStop limits steps whole → SameDid limits p (did_stop s op v steps) (did_stop s op v whole)
-did-same limits p s op v steps whole is same =
-    let kept = did_stop-same s op v whole in
-    let beside = did_at-beside s (fold (saw op) v whole.events) steps.words whole.words whole.at in
-    record {
-      vp = ap (λ es. (did_at s (fold (saw op) v es) steps.words steps.at).vp) same.events ∙ ap (λ t. (did_at s (fold (saw op) v whole.events) steps.words t).vp) same.at ∙ beside.vp;
-      served = ap (λ es. (did_at s (fold (saw op) v es) steps.words steps.at).served) same.events ∙ ap (λ t. (did_at s (fold (saw op) v whole.events) steps.words t).served) same.at ∙ beside.served;
-      holds = rw (did_at-words s (fold (saw op) v steps.events) steps.words steps.at, did_at-words s (fold (saw op) v whole.events) whole.words whole.at) same.holds;
-      placed = record { limits_same = kept.limits ∙ is.limits_same; number = kept.number ∙ is.number; low = is.low };
-    }
-
-attempt-did : (limits : Limits) (program : Program) (p : ℕ) (v : Vp) (s : PartitionState) (words : List ℕ) (flat : Flat) → IsPlaced limits p v → Holds limits words flat → SameDid limits p (made_steps program v s words) (attempted program v s flat)
+attempt-did : (limits : Limits) (program : Program) (p : ℕ) (v : Vp) (s : PartitionState) (words : List ℕ) (flat : Flat) → IsPlaced limits p v → Holds limits words flat → SameAttempt limits p (made_steps program v s words) (attempted program v s flat)
 unfolding made_steps attempted
 attempt-did limits program p v s words flat is h =
     let op = operation_at program v.state in
+    let t = tree_of (origin_of v) op in
     let low : v.number < v.limits.vps = subst (λ (l : Limits). v.number < l.vps) (sym is.limits_same) (subst (λ n. n < limits.vps) (sym is.number) is.low) in
     let held : Holds v.limits words flat = subst (λ l. Holds l words flat) (sym is.limits_same) h in
-    let same : SameStop v.limits (steps_on v.limits v.number words (tree_of (origin_of v) op)) (run_on v.limits v.number flat (tree_of (origin_of v) op)) = tree-same v.limits v.number v.state v.controllers op words flat low held in
-    did-same limits p s op v _ _ is (subst (λ l. SameStop l (steps_on v.limits v.number words (tree_of (origin_of v) op)) (run_on v.limits v.number flat (tree_of (origin_of v) op))) is.limits_same same)
+    let steps : Did (List ℕ) = does_all (answer_of v.limits v.number) (words_by v.limits v.number) s op v words t in
+    let whole : Did Flat = does_all (answer_in v.limits v.number) (flat_after v.limits v.number) s op v flat t in
+    let kept : IsSameProcessor v whole.vp = does_all-same (answer_in v.limits v.number) (flat_after v.limits v.number) op s v flat t in
+    record {
+      did = subst (λ l. SameDid l steps whole) is.limits_same (tree-same v s op words flat low held);
+      placed = record { limits_same = kept.limits ∙ is.limits_same; number = kept.number ∙ is.number; low = is.low };
+    }
 
-state_after-append : (s : PartitionState) (before more : List (Request × List Entry)) → state_after s (before ++ more) ≡ state_after (state_after s before) more
+pub state_after-append : (s : PartitionState) (before more : List (Request × List Entry)) → state_after s (before ++ more) ≡ state_after (state_after s before) more
 state_after-append s [] more = refl
 state_after-append s (v ∷ before) more = state_after-append (after s v.0) before more
 
-joined-append : (before more : List (Request × List Entry)) → joined (before ++ more) ≡ joined before ++ joined more
+pub joined-append : (before more : List (Request × List Entry)) → joined (before ++ more) ≡ joined before ++ joined more
 joined-append [] more = refl
 joined-append (v ∷ before) more = ap (λ es. v.1 ++ es) (joined-append before more) ∙ sym (append_assoc v.1 (joined before) (joined more))
 
@@ -146,13 +122,13 @@ at_once first p program w u = acted_at attempted (state_after first) (λ before 
 
 module _ (first : PartitionState) (limits : Limits) where
   -- two worlds after the same attempt
-  with_attempt-alike : (p : ℕ) (v : Stepped) (w : World) (u : Vp) (steps : Did (List ℕ)) (whole : Did Flat) → Alike first limits v w → SameDid limits p steps whole
+  with_attempt-alike : (p : ℕ) (v : Stepped) (w : World) (u : Vp) (steps : Did (List ℕ)) (whole : Did Flat) → Alike first limits v w → SameAttempt limits p steps whole
       → Alike first limits (with_attempt made_steps (λ (k : Kept). k.state) after_more p v u steps) (with_attempt attempted (state_after first) (λ before more. before ++ more) p w u whole)
   with_attempt-alike p v w u steps whole r same = record {
-    vps = ap (λ us. slice_set us p steps.vp) r.vps ∙ ap (slice_set w.vps p) same.vp;
-    lines = ap (λ ls. ls ++ attempt_lines p steps.served u steps.vp) r.lines ∙ ap (λ vs. w.lines ++ attempt_lines p vs u steps.vp) same.served ∙ ap (λ x. w.lines ++ attempt_lines p whole.served u x) same.vp;
-    kept = kept-more first v.partition w.partition steps.served whole.served same.served r.kept;
-    holds = same.holds;
+    vps = ap (λ us. slice_set us p steps.vp) r.vps ∙ ap (slice_set w.vps p) same.did.vp;
+    lines = ap (λ ls. ls ++ attempt_lines p steps.served u steps.vp) r.lines ∙ ap (λ vs. w.lines ++ attempt_lines p vs u steps.vp) same.did.served ∙ ap (λ x. w.lines ++ attempt_lines p whole.served u x) same.did.vp;
+    kept = kept-more first v.partition w.partition steps.served whole.served same.did.served r.kept;
+    holds = same.did.holds;
     placed = places-set (IsPlaced limits) w.vps p whole.vp same.placed r.placed;
   }
 
@@ -160,9 +136,9 @@ module _ (first : PartitionState) (limits : Limits) where
   either true v v' w w' r s = r
   either false v v' w w' r s = s
 
-  attempts-alike : (program : Program) (p : ℕ) (v : Stepped) (w : World) (u : Vp) → IsPlaced limits p u → Alike first limits v w → SameDid limits p (made_steps program u v.partition.state v.words) (attempted program u (state_after first w.partition) w.words)
+  attempts-alike : (program : Program) (p : ℕ) (v : Stepped) (w : World) (u : Vp) → IsPlaced limits p u → Alike first limits v w → SameAttempt limits p (made_steps program u v.partition.state v.words) (attempted program u (state_after first w.partition) w.words)
   attempts-alike program p v w u is r =
-      subst (λ s. SameDid limits p (made_steps program u v.partition.state v.words) (attempted program u s w.words)) r.kept.state (attempt-did limits program p u v.partition.state v.words w.words is r.holds)
+      subst (λ s. SameAttempt limits p (made_steps program u v.partition.state v.words) (attempted program u s w.words)) r.kept.state (attempt-did limits program p u v.partition.state v.words w.words is r.holds)
 
   -- the processor that stands at a place acts, if there is one
   acted_at-alike : (program : Program) (p : ℕ) (v : Stepped) (w : World) (u : Option Vp) → slice_get w.vps p ≡ u → Alike first limits v w → Alike first limits (by_steps p program v u) (at_once first p program w u)

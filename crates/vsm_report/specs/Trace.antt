@@ -4,9 +4,9 @@ use Rattle.vsm_core.specs.declared.operation.Program.{Program}
 use Rattle.vsm_core.specs.declared.journal.Entry.{Entry}
 use Rattle.vsm_core.specs.declared.partition_state.PartitionState.{PartitionState}
 use Rattle.vsm_core.specs.declared.request.Request.{Request}
-use Rattle.vsm_core.specs.Processor.{Vp, Did, did_stop, operation_at, origin_of, tree_of}
+use Rattle.vsm_core.specs.Processor.{Vp, Did, does_all, operation_at, origin_of, tree_of}
 use Rattle.vsm_core.specs.Served.{state_after, joined}
-use Rattle.vsm_core.specs.Words.{memory_at, steps_on}
+use Rattle.vsm_core.specs.Words.{answer_of, memory_at, words_by}
 use Rattle.guest_script.specs.declared.script.Script.{Script}
 use Rattle.vsm_report.specs.declared.report.Report.{Report}
 use Rattle.vsm_report.specs.Acting.{WorldOf, first_partition, opening_vps, acted_by, report_with}
@@ -39,10 +39,10 @@ stepped_opening s = record {
 }
 
 -- the steps of the operation where the program stands, up to the mark, each answered by the words as they stand, and its
--- request by a partition in this state
+-- requests by a partition in this state
 unfoldable pub made_steps : Program → Vp → PartitionState → List ℕ → Did (List ℕ)
 made_steps program v state words =
-    did_stop state (operation_at program v.state) v (steps_on v.limits v.number words (tree_of (origin_of v) (operation_at program v.state)))
+    does_all (answer_of v.limits v.number) (words_by v.limits v.number) state (operation_at program v.state) v words (tree_of (origin_of v) (operation_at program v.state))
 
 -- a processor acts: its whole attempt step by step
 unfoldable pub stepped : List Program → ℕ → Stepped → Stepped

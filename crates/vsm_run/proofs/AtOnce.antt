@@ -1,5 +1,5 @@
 -- A request that is served by one turn of the partition.
-use Rattle.std.proofs.Common.{◌≡◌, ◌<◌, ℕ, inl, inr, Some, None, [], ◌∷◌, sym, ap, ◌∙◌, subst, arith}
+use Rattle.std.proofs.Common.{◌≡◌, ◌<◌, ℕ, inl, inr, Some, None, [], ◌∷◌, sym, ap, ◌∙◌, subst}
 use Rattle.vsm_core.specs.Stand.{Stand}
 use Rattle.vsm_core.specs.declared.journal.Entry.{Entry}
 use Rattle.vsm_core.specs.declared.request.Reply.{Reply}
@@ -49,9 +49,8 @@ pub fabric-stays : (f : Plain) (name : ℕ) (first last : PlainSteward) → plai
 fabric-stays f name first last opening stays =
     let e = stays ∙ opening in same-plain f last.fabric.now (ap (λ (s : Stand). s.limits) e) (ap (λ (s : Stand). s.told) e)
 
--- no element is done
-pub none-done : (p : PartView) (r : Request) (reply : Reply) → Done reply ≡ Done (answer p.state r) → reply.done < 4096
-none-done p r reply e =
+-- few elements are done
+pub few-done : (p : PartView) (r : Request) (reply : Reply) → Done reply ≡ Done (answer p.state r) → reply.done < 4096
+few-done p r reply e =
     let same : reply ≡ answer p.state r = cc in
-    let none = (at_once p.state r).done in
-    subst (λ (a : Reply). a.done < 4096) (sym same) (omega arith)
+    subst (λ (a : Reply). a.done < 4096) (sym same) (at_once p.state r).done

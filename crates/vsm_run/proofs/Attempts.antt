@@ -1,5 +1,5 @@
 -- What an attempt keeps of its processor, how many marks it adds, and that each request is paid for by a mark.
-use Rattle.std.proofs.Common.{◌≡◌, ◌<◌, ◌≤◌, ◌+◌, ◌-◌, ℕ, Bool, true, false, cond, nat_lt, Option, Some, None, IfSome, List, [], ◌∷◌, ◌++◌, fold, take, length, refl, sym, ap, subst, ◌∙◌, length-append, length-take, arith}
+use Rattle.std.proofs.Common.{◌≡◌, ◌<◌, ◌≤◌, ◌+◌, ◌-◌, ℕ, Bool, true, false, cond, nat_lt, Option, Some, None, IfSome, List, [], ◌∷◌, ◌++◌, take, length, refl, sym, ap, subst, ◌∙◌, length-append, length-take, arith}
 use Rattle.std.proofs.lemmas.Bool.Decides.{nat_tests}
 use Rattle.std.proofs.lemmas.List.{append-nil}
 use Rattle.vsm_base.specs.declared.places.Limits.{Limits}
@@ -9,23 +9,22 @@ use Rattle.vsm_core.specs.declared.mark.Ending.{Ending}
 use Rattle.vsm_core.specs.declared.mark.Ending.TheVariants as endings
 use Rattle.vsm_core.specs.declared.mark.Mark.{Mark}
 use Rattle.vsm_core.specs.declared.mark.What.{What}
-use Rattle.vsm_core.specs.declared.mark.What.TheVariants as whats
 use Rattle.vsm_core.specs.declared.mark.What.TheVariants.{Again}
 use Rattle.vsm_core.specs.declared.operation.Op.{Op}
 use Rattle.vsm_core.specs.declared.operation.Program.{Program}
 use Rattle.vsm_core.specs.Outcomes.{Outcome}
 use Rattle.vsm_core.specs.declared.partition_state.PartitionState.{PartitionState}
 use Rattle.vsm_core.specs.declared.request.Reply.{Reply}
-use Rattle.vsm_core.specs.declared.request.Request.{Request}
-use Rattle.vsm_core.specs.Processor.{Vp, Did, IsSameProcessor, saw, came_to, marked_or_ended, or_else, ran_out, stopped_by, spun_out, length_of, ending_after, standing, settled, did_at, operation_at, origin_of, tree_of}
-use Rattle.vsm_core.specs.Served.{answer, block, joined}
+use Rattle.vsm_core.specs.Keeps.{EndsIn}
+use Rattle.vsm_core.specs.Processor.{Vp, Did, IsSameProcessor, saw, asking, answered, came_to, does_all, marked_or_ended, or_else, ran_out, stopped_by, spun_out, length_of, ending_after, standing, operation_at, origin_of, tree_of}
+use Rattle.vsm_core.specs.Served.{after, answer, block, joined}
 use Rattle.vsm_core.specs.State.{State, rip_of}
-use Rattle.vsm_core.specs.Tree.{Tree, Ends, Asks, Wants}
-use Rattle.vsm_core.specs.Whole.{Stop}
-use Rattle.vsm_core.specs.Words.{steps_on, answer_of, words_by}
-use Rattle.vsm_core.proofs.Requests.{Asked, IsOwnRequest, IsResult, EndsByResult, own-requests}
+use Rattle.vsm_core.specs.Steps.{made}
+use Rattle.vsm_core.specs.Tree.{Tree, Ends, Asks, Wants, WordStep}
+use Rattle.vsm_core.specs.Words.{answer_of, words_by}
+use Rattle.vsm_core.proofs.Requests.{Asked, Unasked, IsNoAgain, NoAgain, IsOwnRequest, own-requests}
 use Rattle.vsm_report.specs.Trace.{made_steps}
-use Rattle.vsm_report.proofs.Processors.{did_stop-same}
+use Rattle.vsm_report.proofs.Processors.{does_all-same}
 use Rattle.vsm_run.specs.Fits.{FitsOne}
 use Rattle.vsm_run.specs.Rests.{HasMarkLeft, IsAtRest, IsInPlace}
 use Rattle.vsm_run.proofs.Blocks.{block-one}
@@ -35,34 +34,29 @@ pub record AddsFew (stood : List Mark) (marks : List Mark) : Type 0 where
   pub low : length stood ≤ length marks
   pub few : length marks ≤ length stood + 1
 
--- what the events of an attempt keep
+-- what the events of an attempt and the reply to its request keep
 pub record Sees (v n : Vp) : Type 0 where
-  pub number : n.number ≡ v.number
   pub limits : n.limits ≡ v.limits
   pub state : n.state ≡ v.state
   pub stood : standing n ≡ standing v
   pub ended : n.ended ≡ v.ended
-  pub owes : n.owes ≡ v.owes
 
 saw-sees : (op : Option Op) (v : Vp) (e : Event) → Sees v (saw op v e)
-saw-sees op v (events.Check generation) = record { number = refl; limits = refl; state = refl; stood = refl; ended = refl; owes = refl }
-saw-sees op v _ = record { number = refl; limits = refl; state = refl; stood = refl; ended = refl; owes = refl }
+saw-sees op v (events.Check generation) = record { limits = refl; state = refl; stood = refl; ended = refl }
+saw-sees op v _ = record { limits = refl; state = refl; stood = refl; ended = refl }
 
-pub fold-saw-sees : (op : Option Op) (v : Vp) (es : List Event) → Sees v (fold (saw op) v es)
-fold-saw-sees op v [] = record { number = refl; limits = refl; state = refl; stood = refl; ended = refl; owes = refl }
-fold-saw-sees op v (e ∷ es) =
-    let h = saw-sees op v e in let g = fold-saw-sees op (saw op v e) es in
-    record { number = g.number ∙ h.number; limits = g.limits ∙ h.limits; state = g.state ∙ h.state; stood = g.stood ∙ h.stood; ended = g.ended ∙ h.ended; owes = g.owes ∙ h.owes }
+sees-itself : (v : Vp) → Sees v v
+sees-itself v = record { limits = refl; state = refl; stood = refl; ended = refl }
+
+saw-owes : (op : Option Op) (v : Vp) (e : Event) → v.owes ≡ false → (saw op v e).owes ≡ false
+saw-owes op v (events.Check generation) owes = owes
+saw-owes op v _ owes = owes
 
 one_more : (stood : List Mark) (mark : Mark) → AddsFew stood (stood ++ mark ∷ [])
 one_more stood mark = record { low = simp length-append (omega arith); few = simp length-append (omega arith) }
 
 none_more : (stood : List Mark) → AddsFew stood stood
 none_more stood = record { low = omega arith; few = omega arith }
-
-stood-few : (b : Bool) (marks : List Mark) → AddsFew (cond b (take (length marks - 1) marks) marks) marks
-stood-few true marks = let l = length-take (length marks - 1) marks in record { low = omega arith; few = omega arith }
-stood-few false marks = none_more marks
 
 marked_or_ended-few : (v : Vp) (o : Outcome) (ending : Option Ending) → AddsFew (standing v) (marked_or_ended v o ending).marks
 marked_or_ended-few v o None = one_more (standing v) _
@@ -71,11 +65,6 @@ marked_or_ended-few v o (Some ending) = none_more (standing v)
 came_to-few : (what : What) (v : Vp) (o : Outcome) → AddsFew (standing v) (came_to what v o).marks
 came_to-few (Again grant) v o = marked_or_ended-few v o _
 came_to-few _ v o = one_more (standing v) _
-
-settled-few : (t : Tree Outcome) (v : Vp) → AddsFew (standing v) (settled t v).marks
-settled-few (Ends o) v = came_to-few o.what v o
-settled-few (Asks s k) v = stood-few v.again v.marks
-settled-few (Wants q k) v = stood-few v.again v.marks
 
 -- the marks that stay are no fewer than before
 stood_later : (b : Bool) (marks : List Mark) → length (cond b (take (length marks - 1) marks) marks) ≤ length marks
@@ -102,14 +91,10 @@ came_to-stands (Again grant) v o =
     no-less (length (standing (marked_or_ended v o ending))) (length (standing v)) (marked_or_ended-stands v o ending)
 came_to-stands _ v o = simp length-append (omega arith)
 
--- a hypercall's result leaves a mark that stays
-result-stands : (what : What) (v : Vp) (o : Outcome) → IsResult what → length (standing (came_to what v o)) ≡ length (standing v) + 1
-result-stands (whats.Reply value) v o is = length-append (standing v) _
-result-stands _ v o is = absurd is
-
-settled-result-stands : (t : Tree Outcome) (v : Vp) → EndsByResult t → length (standing (settled t v)) ≡ length (standing v) + 1
-settled-result-stands (Ends o) v is = result-stands o.what v o is
-settled-result-stands _ v is = absurd is
+-- an attempt that is no spin in vain leaves a mark that stays
+no-again-stands : (what : What) (v : Vp) (o : Outcome) → IsNoAgain what → length (standing (came_to what v o)) ≡ length (standing v) + 1
+no-again-stands (Again grant) v o never = absurd never
+no-again-stands _ v o never = length-append (standing v) _
 
 -- an ending is left out only where the budget still has a mark
 or_else-none : (a b : Option Ending) → or_else a b ≡ None → (a ≡ None) × (b ≡ None)
@@ -137,12 +122,7 @@ came_to-left : (what : What) (v : Vp) (o : Outcome) → HasMarkLeft v → HasMar
 came_to-left (Again grant) v o h = marked_or_ended-left v o _ h
 came_to-left _ v o h = λ e. let less = ending-none v o.what o.state (length (standing v) + 1) v.spins e in simp length-append less
 
-settled-left : (t : Tree Outcome) (v : Vp) → HasMarkLeft v → HasMarkLeft (settled t v)
-settled-left (Ends o) v h = came_to-left o.what v o h
-settled-left (Asks s k) v h = h
-settled-left (Wants q k) v h = h
-
--- an attempt doesn't change whether a reply is owed
+-- the end of an attempt doesn't change whether a reply is owed
 marked_or_ended-owes : (v : Vp) (o : Outcome) (ending : Option Ending) → (marked_or_ended v o ending).owes ≡ v.owes
 marked_or_ended-owes v o None = refl
 marked_or_ended-owes v o (Some ending) = refl
@@ -151,28 +131,22 @@ came_to-owes : (what : What) (v : Vp) (o : Outcome) → (came_to what v o).owes 
 came_to-owes (Again grant) v o = marked_or_ended-owes v o _
 came_to-owes _ v o = refl
 
-settled-owes : (t : Tree Outcome) (v : Vp) → (settled t v).owes ≡ v.owes
-settled-owes (Ends o) v = came_to-owes o.what v o
-settled-owes (Asks s k) v = refl
-settled-owes (Wants q k) v = refl
-
 -- the operation that the processor keeps on with is the one where its program stands
 abbrev Keeps : Program → Vp → Type 0
 Keeps program v = IfSome v.op (λ op. operation_at program v.state ≡ Some op)
 
-keeps_same : (here op : Option Op) → here ≡ op → IfSome op (λ o. here ≡ Some o)
+pub keeps_same : (here op : Option Op) → here ≡ op → IfSome op (λ o. here ≡ Some o)
 keeps_same here None e = tt
 keeps_same here (Some o) e = e
 
-saw-keeps : (program : Program) (op : Option Op) (v : Vp) (e : Event) → operation_at program v.state ≡ op → Keeps program (saw op v e)
-saw-keeps program op v (events.Check generation) same = keeps_same (operation_at program v.state) op same
-saw-keeps program op v _ same = keeps_same (operation_at program v.state) op same
+-- where this is the operation at which the program stands
+record IsHere (program : Program) (op : Option Op) (v : Vp) : Type 0 where
+  here : operation_at program v.state ≡ op
+  kept : Keeps program v
 
-fold-saw-keeps : (program : Program) (op : Option Op) (v : Vp) (es : List Event) → operation_at program v.state ≡ op → Keeps program v → Keeps program (fold (saw op) v es)
-fold-saw-keeps program op v [] same h = h
-fold-saw-keeps program op v (e ∷ es) same h =
-    let state = (saw-sees op v e).state in
-    fold-saw-keeps program op (saw op v e) es (subst (λ s. operation_at program s ≡ op) (sym state) same) (saw-keeps program op v e same)
+saw-here : (program : Program) (op : Option Op) (v : Vp) (e : Event) → IsHere program op v → IsHere program op (saw op v e)
+saw-here program op v (events.Check generation) h = record { here = h.here; kept = keeps_same (operation_at program v.state) op h.here }
+saw-here program op v _ h = record { here = h.here; kept = keeps_same (operation_at program v.state) op h.here }
 
 marked_or_ended-keeps : (program : Program) (v : Vp) (o : Outcome) (ending : Option Ending) → Keeps program v → Keeps program (marked_or_ended v o ending)
 marked_or_ended-keeps program v o None h = h
@@ -182,58 +156,72 @@ came_to-keeps : (program : Program) (what : What) (v : Vp) (o : Outcome) → Kee
 came_to-keeps program (Again grant) v o h = marked_or_ended-keeps program v o _ h
 came_to-keeps program _ v o h = tt
 
-settled-keeps : (program : Program) (t : Tree Outcome) (v : Vp) → Keeps program v → Keeps program (settled t v)
-settled-keeps program (Ends o) v h = came_to-keeps program o.what v o h
-settled-keeps program (Asks s k) v h = h
-settled-keeps program (Wants q k) v h = h
-
--- what an attempt has done to its processor, where it stopped, is what settling some rest of it does
-module _ (P : Vp → Type 0) (s : PartitionState) (v : Vp) (words : List ℕ) (h : (t : Tree Outcome) → P (settled t v)) where
-  by_settled : (t : Tree Outcome) → P (did_at s v words t).vp
-  by_settled (Ends o) = h (Ends o)
-  by_settled (Asks step k) = h (Asks step k)
-  by_settled (Wants q k) = h (k (answer s q))
+-- what holds as an attempt begins, and after each event and reply, leaves something at its end
+module _ {W : Type 0} (answers : W → WordStep → ℕ) (changes : W → WordStep → W) (op : Option Op) (P Q : Vp → Type 0) (sees : (v : Vp) (e : Event) → P v → P (saw op v e)) (hears : (v : Vp) (reply : Reply) → P v → P (answered reply (asking op v))) (ends : (v : Vp) (o : Outcome) → P v → Q (came_to o.what v o)) where
+  by_end : (s : PartitionState) (v : Vp) (words : W) (t : Tree Outcome) → P v → Q (does_all answers changes s op v words t).vp
+  by_end s v words (Ends o) h = ends v o h
+  by_end s v words (Asks step k) h =
+      let x = answers words step in by_end s (saw op v (made step x)) (changes words step) (k x) (sees v (made step x) h)
+  by_end s v words (Wants q k) h =
+      let reply = answer s q in by_end (after s q) (answered reply (asking op v)) words (k reply) (hears v reply h)
 
 -- how many entries an attempt adds, and that each is paid for by a mark that stays
 pub record Pays (stood : List Mark) (did : Did (List ℕ)) : Type 0 where
   pub one : length (joined did.served) ≤ 1
   pub spends : length (joined did.served) + length stood ≤ length (standing did.vp)
 
-did_at-pays : (number : ℕ) (s : PartitionState) (v : Vp) (words : List ℕ) (t : Tree Outcome) → Asked (IsOwnRequest number) t → Pays (standing v) (did_at s v words t)
-did_at-pays number s v words (Ends o) own = let le = came_to-stands o.what v o in record { one = omega arith; spends = omega arith }
-did_at-pays number s v words (Asks step k) own = record { one = omega arith; spends = omega arith }
-did_at-pays number s v words (Wants q k) own =
-    let e = settled-result-stands (k (answer s q)) v (own.ends (answer s q)) in
-    let l = ap length (append-nil (block s q)) in
-    let one = block-one s q in
-    record { one = omega arith; spends = omega arith }
+-- nothing is served, and a mark more stays
+record Unserved (stood : List Mark) (did : Did (List ℕ)) : Type 0 where
+  none : did.served ≡ []
+  marks : length (standing did.vp) ≡ length stood + 1
 
--- the rest of an attempt where its steps stop
-steps_on-asked : {A : Type 0} (P : Request → (Reply → Tree A) → Type 0) (limits : Limits) (p : ℕ) (words : List ℕ) (t : Tree A) → Asked P t → Asked P (steps_on limits p words t).at
-steps_on-asked P limits p words (Ends a) h = h
-steps_on-asked P limits p words (Asks s k) h = let x = answer_of limits p words s in steps_on-asked P limits p (words_by limits p words s) (k x) (h x)
-steps_on-asked P limits p words (Wants q k) h = h
+module _ (answers : List ℕ → WordStep → ℕ) (changes : List ℕ → WordStep → List ℕ) (op : Option Op) where
+  does_all-unserved : (s : PartitionState) (v : Vp) (words : List ℕ) (t : Tree Outcome) → Unasked t → EndsIn NoAgain t → Unserved (standing v) (does_all answers changes s op v words t)
+  does_all-unserved s v words (Ends o) asks ends = record { none = refl; marks = no-again-stands o.what v o ends }
+  does_all-unserved s v words (Asks step k) asks ends =
+      let x = answers words step in
+      let did = does_all answers changes s op (saw op v (made step x)) (changes words step) (k x) in
+      subst (λ ms. Unserved ms did) (saw-sees op v (made step x)).stood (does_all-unserved s (saw op v (made step x)) (changes words step) (k x) (asks x) (ends x))
+  does_all-unserved s v words (Wants q k) asks ends = absurd asks
 
--- where the attempt of the operation that stands there stops
-abbrev stop_of : Program → Vp → List ℕ → Stop Outcome (List ℕ)
-stop_of program v words = steps_on v.limits v.number words (tree_of (origin_of v) (operation_at program v.state))
+  does_all-pays : (number : ℕ) (s : PartitionState) (v : Vp) (words : List ℕ) (t : Tree Outcome) → Asked (IsOwnRequest number) t → Pays (standing v) (does_all answers changes s op v words t)
+  does_all-pays number s v words (Ends o) own = let le = came_to-stands o.what v o in record { one = omega arith; spends = omega arith }
+  does_all-pays number s v words (Asks step k) own =
+      let x = answers words step in
+      let did = does_all answers changes s op (saw op v (made step x)) (changes words step) (k x) in
+      subst (λ ms. Pays ms did) (saw-sees op v (made step x)).stood (does_all-pays number s (saw op v (made step x)) (changes words step) (k x) (own x))
+  does_all-pays number s v words (Wants q k) own =
+      let reply = answer s q in
+      let ends = own.ends reply in
+      let did = does_all answers changes (after s q) op (answered reply (asking op v)) words (k reply) in
+      let rest = does_all-unserved (after s q) (answered reply (asking op v)) words (k reply) ends.0 ends.1 in
+      let marks = rest.marks in
+      let one = block-one s q in
+      let all : length (block s q ++ joined did.served) ≡ length (block s q) = ap (λ vs. length (block s q ++ joined vs)) rest.none ∙ ap length (append-nil (block s q)) in
+      record { one = omega arith; spends = omega arith }
 
 module _ (program : Program) (v : Vp) (s : PartitionState) (words : List ℕ) where
-  abbrev seen_by : Vp
-  seen_by = fold (saw (operation_at program v.state)) v (stop_of program v words).events
+  abbrev here : Option Op
+  here = operation_at program v.state
 
-  sees : Sees v seen_by
-  sees = fold-saw-sees (operation_at program v.state) v (stop_of program v words).events
+  abbrev rest : Tree Outcome
+  rest = tree_of (origin_of v) here
 
   pub made_steps-same : IsSameProcessor v (made_steps program v s words).vp
   unfolding made_steps
-  made_steps-same = did_stop-same s (operation_at program v.state) v (stop_of program v words)
+  made_steps-same = does_all-same (answer_of v.limits v.number) (words_by v.limits v.number) here s v words rest
+
+  -- what follows from what its events keep
+  by_sees : (Q : Vp → Type 0) → ((u : Vp) (o : Outcome) → Sees v u → Q (came_to o.what u o)) → Q (made_steps program v s words).vp
+  unfolding made_steps
+  by_sees Q ends =
+      by_end (answer_of v.limits v.number) (words_by v.limits v.number) here (Sees v) Q
+      (λ u e h. let g = saw-sees here u e in record { limits = g.limits ∙ h.limits; state = g.state ∙ h.state; stood = g.stood ∙ h.stood; ended = g.ended ∙ h.ended })
+      (λ u reply h. record { limits = h.limits; state = h.state; stood = h.stood; ended = h.ended })
+      ends s v words rest (sees-itself v)
 
   pub made_steps-few : AddsFew (standing v) (made_steps program v s words).vp.marks
-  unfolding made_steps
-  made_steps-few =
-      let stop = stop_of program v words in
-      by_settled (λ n. AddsFew (standing v) n.marks) s seen_by stop.words (λ t. subst (λ ms. AddsFew ms (settled t seen_by).marks) sees.stood (settled-few t seen_by)) stop.at
+  made_steps-few = by_sees (λ n. AddsFew (standing v) n.marks) (λ u o h. subst (λ ms. AddsFew ms (came_to o.what u o).marks) h.stood (came_to-few o.what u o))
 
   pub made_steps-stands : length (standing (made_steps program v s words).vp) ≤ length (standing v) + 1
   made_steps-stands =
@@ -244,29 +232,24 @@ module _ (program : Program) (v : Vp) (s : PartitionState) (words : List ℕ) wh
 
   pub made_steps-pays : Pays (standing v) (made_steps program v s words)
   unfolding made_steps
-  made_steps-pays =
-      let stop = stop_of program v words in
-      let own = steps_on-asked (IsOwnRequest v.number) v.limits v.number words (tree_of (origin_of v) (operation_at program v.state)) (own-requests (origin_of v) (operation_at program v.state) []) in
-      subst (λ ms. Pays ms (did_at s seen_by stop.words stop.at)) sees.stood (did_at-pays v.number s seen_by stop.words stop.at own)
+  made_steps-pays = does_all-pays (answer_of v.limits v.number) (words_by v.limits v.number) here v.number s v words rest (own-requests (origin_of v) here None [])
 
   made_steps-keeps : Keeps program v → Keeps program (made_steps program v s words).vp
   unfolding made_steps
   made_steps-keeps h =
-      let stop = stop_of program v words in
-      by_settled (Keeps program) s seen_by stop.words (λ t. settled-keeps program t seen_by (fold-saw-keeps program (operation_at program v.state) v stop.events refl h)) stop.at
+      by_end (answer_of v.limits v.number) (words_by v.limits v.number) here (IsHere program here) (Keeps program)
+      (saw-here program here) (λ u reply g. record { here = g.here; kept = keeps_same (operation_at program u.state) here g.here })
+      (λ u o g. came_to-keeps program o.what u o g.kept) s v words rest (record { here = refl; kept = h })
 
-  made_steps-owes : (made_steps program v s words).vp.owes ≡ v.owes
+  made_steps-owes : v.owes ≡ false → (made_steps program v s words).vp.owes ≡ false
   unfolding made_steps
-  made_steps-owes =
-      let stop = stop_of program v words in by_settled (λ n. n.owes ≡ v.owes) s seen_by stop.words (λ t. settled-owes t seen_by ∙ sees.owes) stop.at
-
-  seen_by-left : HasMarkLeft v → HasMarkLeft seen_by
-  seen_by-left h = λ e. rw (sees.stood, sees.limits) (h (sym sees.ended ∙ e))
+  made_steps-owes owes =
+      by_end (answer_of v.limits v.number) (words_by v.limits v.number) here (λ u. u.owes ≡ false) (λ u. u.owes ≡ false)
+      (saw-owes here) (λ u reply g. refl) (λ u o g. came_to-owes o.what u o ∙ g) s v words rest owes
 
   made_steps-left : HasMarkLeft v → HasMarkLeft (made_steps program v s words).vp
-  unfolding made_steps
-  made_steps-left h =
-      let stop = stop_of program v words in by_settled HasMarkLeft s seen_by stop.words (λ t. settled-left t seen_by (seen_by-left h)) stop.at
+  made_steps-left left =
+      by_sees HasMarkLeft (λ u o h. came_to-left o.what u o (λ e. rw (h.stood, h.limits) (left (sym h.ended ∙ e))))
 
   pub made_steps-fits : FitsOne program v → FitsOne program (made_steps program v s words).vp
   made_steps-fits fits = record {
@@ -275,13 +258,14 @@ module _ (program : Program) (v : Vp) (s : PartitionState) (words : List ℕ) wh
     kept = made_steps-keeps fits.kept;
   }
 
-  pub made_steps-place : (limits : Limits) (p : ℕ) → IsInPlace limits p v → IsAtRest (made_steps program v s words).vp → IsInPlace limits p (made_steps program v s words).vp
-  made_steps-place limits p place rests = record {
+  pub made_steps-place : (limits : Limits) (p : ℕ) → IsInPlace limits p v → IsAtRest (made_steps program v s words).vp → (made_steps program v s words).vp.heard ≡ None → IsInPlace limits p (made_steps program v s words).vp
+  made_steps-place limits p place rests unheard = record {
     number = made_steps-same.number ∙ place.number;
     low = place.low;
     limits_same = made_steps-same.limits ∙ place.limits_same;
     started = made_steps-same.started ∙ place.started;
     rests = rests;
-    answered = made_steps-owes ∙ place.answered;
+    answered = made_steps-owes place.answered;
+    unheard = unheard;
     left = made_steps-left place.left;
   }

@@ -56,6 +56,7 @@ module _ (s : Script) (programs : length s.programs ≡ s.limits.vps) (started :
     started = grind (arith, nat_tests, programs, started);
     rests = refl;
     answered = refl;
+    unheard = refl;
     left = let program = program_at s.programs p in opening-left (nat_lt p s.started) p s.limits (length program.zero) (length program.one) some;
   }
 

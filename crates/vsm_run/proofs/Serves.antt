@@ -1,5 +1,6 @@
 -- The partition after an attempt.
-use Rattle.std.proofs.Common.{◌≡◌, ◌≤◌, ◌+◌, ℕ, List, [], ◌∷◌, ◌++◌, length, refl, ap, ◌∙◌, length-append, arith}
+use Rattle.std.proofs.Common.{◌≡◌, ◌≤◌, ◌+◌, ℕ, List, [], ◌∷◌, ◌++◌, length, refl, sym, ap, ◌∙◌, subst, append_assoc, length-append, arith}
+use Rattle.std.proofs.lemmas.List.{append-nil}
 use Rattle.vsm_core.specs.declared.journal.Entry.{Entry}
 use Rattle.vsm_core.specs.declared.mark.Mark.{Mark}
 use Rattle.vsm_core.specs.declared.partition_state.PartitionState.{PartitionState}
@@ -8,19 +9,32 @@ use Rattle.vsm_core.specs.Processor.{Vp, Did, standing}
 use Rattle.vsm_core.specs.Served.{after, state_after, joined}
 use Rattle.vsm_core.proofs.ServedBlocks.{lawful}
 use Rattle.partition.specs.PartView.{PartView}
-use Rattle.vsm_run.specs.Serving.{IsDone, IsFree}
+use Rattle.vsm_report.proofs.Stepping.{state_after-append, joined-append}
+use Rattle.vsm_run.specs.Serving.{IsDone, IsFree, with_served}
 use Rattle.vsm_run.proofs.Attempts.{Pays}
 
 state_after-vps : (s : PartitionState) (served : List (Request × List Entry)) → length (state_after s served).vps ≡ length s.vps
 state_after-vps s [] = refl
 state_after-vps s (v ∷ served) = state_after-vps (after s v.0) served ∙ (lawful s v.0).vps
 
+-- a free partition is free once requests were served
+pub served-free : (before : PartView) (served : List (Request × List Entry)) (vps : ℕ) → IsFree vps before → IsFree vps (with_served before served)
+served-free before served vps free = record { free = free.free; vps_all = state_after-vps before.state served ∙ free.vps_all }
+
+-- where nothing was served, the partition is as it was
+pub with_none : (p : PartView) → with_served p [] ≡ p
+with_none p = ap (λ es. record p { journal = record p.journal { entries = es } }) (append-nil p.journal.entries)
+
+-- where some were served and then others, all of them were
+pub with_more : (p : PartView) (served more : List (Request × List Entry)) → with_served (with_served p served) more ≡ with_served p (served ++ more)
+with_more p served more =
+    let entries = append_assoc p.journal.entries (joined served) (joined more) ∙ ap (λ es. p.journal.entries ++ es) (sym (joined-append served more)) in
+    ap (λ s. record { state = s; journal = record p.journal { entries = (p.journal.entries ++ joined served) ++ joined more }; under = p.under }) (sym (state_after-append p.state served more))
+    ∙ ap (λ es. record { state = state_after p.state (served ++ more); journal = record p.journal { entries = es }; under = p.under }) entries
+
 module _ (did : Did (List ℕ)) (n : Vp) (words : List ℕ) (before now : PartView) (done : IsDone did n words before now) where
   pub still-free : (vps : ℕ) → IsFree vps before → IsFree vps now
-  still-free vps free = record {
-    free = ap (λ (p : PartView). p.under) done.partition ∙ free.free;
-    vps_all = ap (λ (p : PartView). length p.state.vps) done.partition ∙ state_after-vps before.state did.served ∙ free.vps_all;
-  }
+  still-free vps free = subst (IsFree vps) (sym done.partition) (served-free before did.served vps free)
 
   entries-after : now.journal.entries ≡ before.journal.entries ++ joined did.served
   entries-after = ap (λ (p : PartView). p.journal.entries) done.partition

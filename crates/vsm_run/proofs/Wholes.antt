@@ -1,8 +1,7 @@
--- One turn of an attempt, and where the attempt stops.
-use Rattle.std.proofs.Common.{◌≡◌, ◌≢◌, ◌≤◌, ◌+◌, ℕ, Option, Some, None, List, [], ◌∷◌, ◌++◌, length, map, take, drop, reverse, get_or, slice_set, refl, sym, ap, ◌∙◌, subst, append_assoc, length-append, length-drop, arith}
-use Rattle.std.proofs.lemmas.List.{reverse-append}
+-- One turn of an attempt.
+use Rattle.std.proofs.Common.{◌≡◌, ◌≢◌, ◌≤◌, ◌+◌, ℕ, Option, Some, None, IfSome, List, [], ◌∷◌, ◌++◌, length, map, take, drop, get_or, slice_set, refl, sym, ap, ◌∙◌, append_assoc, length-append, length-drop, arith}
 use Rattle.std.proofs.Math.Seq.{drop-append_seam}
-use Rattle.std.proofs.lemmas.List.{drop-append-le, length-take-le, map-append, get_or-set_other}
+use Rattle.std.proofs.lemmas.List.{drop-append-le, length-map, length-take-le, map-append, get_or-set_other}
 use Rattle.vsm_base.specs.declared.places.Limits.{Limits}
 use Rattle.vsm_core.specs.declared.event.Event.{Event}
 use Rattle.vsm_core.specs.declared.event.Event.TheVariants as events
@@ -12,34 +11,32 @@ use Rattle.vsm_core.specs.declared.mark.Ending.{Ending}
 use Rattle.vsm_core.specs.declared.mark.What.{What}
 use Rattle.vsm_core.specs.declared.mark.What.TheVariants.{Again}
 use Rattle.vsm_core.specs.declared.operation.Op.{Op}
+use Rattle.vsm_core.specs.declared.partition_state.PartitionState.{PartitionState}
 use Rattle.vsm_core.specs.Outcomes.{Outcome}
+use Rattle.vsm_core.specs.declared.request.Heard.{Heard}
 use Rattle.vsm_core.specs.declared.request.Request.{Request}
-use Rattle.vsm_core.specs.declared.request.Reply.{Reply}
-use Rattle.vsm_core.specs.Processor.{Vp, IsSameProcessor, saw, came_to, marked_or_ended, settled, asking, origin_of, rest_of, tree_of}
+use Rattle.vsm_core.specs.Processor.{Vp, Did, IsSameProcessor, saw, came_to, does_all, marked_or_ended, settled, origin_of, rest_of, tree_of}
 use Rattle.vsm_core.specs.Seat.{Seat, Fabric, Makes, fabric_after, told_after}
-use Rattle.vsm_core.specs.Sound.{Sound, IsOver}
 use Rattle.vsm_core.specs.Steps.{made, learned, phase_after}
-use Rattle.vsm_core.specs.Tree.{Tree, Ends, Asks, Wants, WordStep, after, follow}
+use Rattle.vsm_core.specs.Tree.{Tree, Ends, Asks, Wants, WordStep, after, followed}
 use Rattle.vsm_core.specs.Words.{answer_of, words_by}
-use Rattle.vsm_core.proofs.Bounds.{follow-append}
+use Rattle.vsm_core.proofs.Bounds.{followed-append}
 use Rattle.cpu.specs.declared.cpu_turn.CpuTurn.{CpuTurn}
 use Rattle.cpu.specs.declared.cpu_turn.CpuTurn.TheVariants as turns
 use Rattle.cpu.specs.Turns.{TurnsBy, after_mark, answer_at}
 use Rattle.vsm_run.specs.Rests.{IsAtRest}
-use Rattle.vsm_run.specs.Wholes.{halt, IsLawful, Moves, Stops, Hands, Leads}
+use Rattle.vsm_run.specs.Wholes.{HasHeard, Moves, Stops, Hands, Leads}
 
 -- the places of a processor's events are in order
 pub record IsOrdered (v : Vp) : Type 0 where
   pub part : v.part ≤ length v.seen
   pub first : v.first ≤ length v.seen
+  pub heard : HasHeard v
 
 -- events that were taken out of the middle
 drop-forgot : {A : Type 0} (part : ℕ) (xs ys zs : List A) → part ≤ length xs → drop part ((take part xs ++ ys) ++ zs) ≡ ys ++ zs
 drop-forgot part xs ys zs le =
     ap (drop part) (append_assoc (take part xs) ys zs) ∙ ap (λ n. drop n (take part xs ++ (ys ++ zs))) (sym (length-take-le part xs le)) ∙ drop-append_seam (take part xs) (ys ++ zs)
-
-answers-more : {A : Type 0} (t : Tree A) (es : List Event) (e : Event) → follow t (map learned (es ++ e ∷ [])) ≡ after (follow t (map learned es)) (learned e)
-answers-more t es e = ap (follow t) (map-append learned es (e ∷ [])) ∙ follow-append t (map learned es) (learned e)
 
 -- the events of the attempt under way after one more
 saw-events : (op : Option Op) (v : Vp) (e : Event) → IsOrdered v → drop (saw op v e).first (saw op v e).seen ≡ drop v.first v.seen ++ e ∷ []
@@ -50,11 +47,26 @@ saw-tree : (op : Option Op) (v : Vp) (e : Event) → tree_of (origin_of (saw op 
 saw-tree op v (events.Check generation) = refl
 saw-tree op v e = refl
 
+saw-heard : (op : Option Op) (v : Vp) (e : Event) → (saw op v e).heard ≡ v.heard
+saw-heard op v (events.Check generation) = refl
+saw-heard op v e = refl
+
+heard-within : (heard : Option Heard) (first : ℕ) (seen : List Event) → IfSome heard (λ h. h.after + first ≤ length seen) → IfSome heard (λ h. h.after ≤ length (map learned (drop first seen)))
+heard-within None first seen le = tt
+heard-within (Some h) first seen le = omega (arith, le, length-map (drop first seen) learned, length-drop first seen)
+
+answers-more : {A : Type 0} (t : Tree A) (heard : Option Heard) (es : List Event) (e : Event) → IfSome heard (λ h. h.after ≤ length (map learned es)) → followed t heard (map learned (es ++ e ∷ [])) ≡ after (followed t heard (map learned es)) (learned e)
+answers-more t heard es e le = ap (followed t heard) (map-append learned es (e ∷ [])) ∙ followed-append t heard (map learned es) (learned e) le
+
 -- an event more, and one answer more
 saw-rest : (op : Option Op) (v : Vp) (e : Event) → IsOrdered v → rest_of (saw op v e) op ≡ after (rest_of v op) (learned e)
 saw-rest op v e is =
     let t = tree_of (origin_of v) op in
-    ap (λ u. follow u (map learned (drop (saw op v e).first (saw op v e).seen))) (saw-tree op v e) ∙ ap (λ es. follow t (map learned es)) (saw-events op v e is) ∙ answers-more t (drop v.first v.seen) e
+    let m = saw op v e in
+    ap (λ u. followed u m.heard (map learned (drop m.first m.seen))) (saw-tree op v e)
+    ∙ ap (λ h. followed t h (map learned (drop m.first m.seen))) (saw-heard op v e)
+    ∙ ap (λ es. followed t v.heard (map learned es)) (saw-events op v e is)
+    ∙ answers-more t v.heard (drop v.first v.seen) e (heard-within v.heard v.first v.seen is.heard)
 
 -- what an event keeps, and that it is one more
 record Sees (op : Option Op) (v n : Vp) : Type 0 where
@@ -85,61 +97,63 @@ came_to-rests (Again grant) v o le = again-rests v o _ le
 came_to-rests _ v o le = refl
 
 module _ (limits : Limits) (p : ℕ) (op : Option Op) where
-  halt-step : (s : WordStep) (k : ℕ → Tree Outcome) (v : Vp) (words : List ℕ) (x : ℕ) → x ≡ answer_of limits p words s
-      → halt limits p (k x) op (saw op v (made s x)) (words_by limits p words s) ≡ halt limits p (Asks s k) op v words
-  halt-step s k v words x e = rw e refl
+  -- a tree is done from this processor on
+  abbrev does : PartitionState → Vp → List ℕ → Tree Outcome → Did (List ℕ)
+  does ps v words t = does_all (answer_of limits p) (words_by limits p) ps op v words t
 
-  -- after a step the rest may ask what it asks
-  saw-lawful : (s : WordStep) (k : ℕ → Tree Outcome) (v : Vp) (x : ℕ) → rest_of v op ≡ Asks s k → rest_of (saw op v (made s x)) op ≡ k x → IsOrdered v → IsLawful limits op v → IsLawful limits op (saw op v (made s x))
-  saw-lawful s k v x rest on is lawful =
-      let es = drop v.first v.seen in
-      let newest : reverse (drop (saw op v (made s x)).first (saw op v (made s x)).seen) ≡ made s x ∷ reverse es = ap (λ fs. reverse fs) (saw-events op v (made s x) is) ∙ reverse-append es (made s x ∷ []) in
-      let before : Sound limits IsOver (reverse es) (Asks s k) = subst (Sound limits IsOver (reverse es)) rest lawful in
-      subst (λ fs. Sound limits IsOver fs (rest_of (saw op v (made s x)) op)) (sym newest) (subst (Sound limits IsOver (made s x ∷ reverse es)) (sym on) (before.1 x))
+  does-step : (ps : PartitionState) (s : WordStep) (k : ℕ → Tree Outcome) (v : Vp) (words : List ℕ) (x : ℕ) → x ≡ answer_of limits p words s
+      → does ps (saw op v (made s x)) (words_by limits p words s) (k x) ≡ does ps v words (Asks s k)
+  does-step ps s k v words x e = rw e refl
 
   -- a step that was answered so
   module _ (s : WordStep) (k : ℕ → Tree Outcome) (v n : Vp) (words : List ℕ) (x : ℕ) (rest : rest_of v op ≡ Asks s k) (is : IsOrdered v) (learns : learned (made s x) ≡ x) (told : x ≡ answer_of limits p words s) where
-    goes_on : rest_of (saw op v (made s x)) op ≡ k x
-    goes_on = saw-rest op v (made s x) is ∙ ap (λ t. after t (learned (made s x))) rest ∙ ap k learns
+    abbrev m : Vp
+    m = saw op v (made s x)
 
-    moved : n ≡ saw op v (made s x) → Moves limits p op v n words (words_by limits p words s)
+    goes_on : rest_of m op ≡ after (rest_of v op) x
+    goes_on = saw-rest op v (made s x) is ∙ ap (λ y. after (rest_of v op) y) learns
+
+    left : after (rest_of v op) x ≡ k x
+    left = ap (λ t. after t x) rest
+
+    moved : n ≡ m → Moves limits p op v n words (words_by limits p words s)
     moved new =
         let sees = saw-sees op v (made s x) is in
         rw new (record {
-          same_halt = rw (goes_on, rest) (halt-step s k v words x told);
+          answer = x;
+          goes_on = goes_on;
+          same_end = λ ps. ap (does ps m (words_by limits p words s)) (goes_on ∙ left) ∙ does-step ps s k v words x told ∙ ap (does ps v words) (sym rest);
           same = sees.same;
           state = sees.state;
           kept = sees.kept;
           ended = sees.ended;
+          heard = saw-heard op v (made s x);
           nearer = sees.nearer;
-          lawful = saw-lawful s k v x rest goes_on is;
         })
 
-    stopped : (o : Outcome) → k x ≡ Ends o → n ≡ settled (Ends o) (saw op v (made s x)) → Stops limits p op v n words (words_by limits p words s)
-    stopped o end new =
-        let m = saw op v (made s x) in
-        record {
-          outcome = o;
-          last = m;
-          halts = rw rest (sym (halt-step s k v words x told) ∙ ap (λ t. halt limits p t op m (words_by limits p words s)) end);
-          marked = new;
-          rests = rw new (came_to-rests o.what m o (saw-sees op v (made s x) is).part);
-        }
+    stopped : (o : Outcome) → k x ≡ Ends o → n ≡ settled (Ends o) m → Stops limits p op v n words (words_by limits p words s)
+    stopped o end new = record {
+      answer = x;
+      outcome = o;
+      last = m;
+      ends = left ∙ end;
+      marked = new;
+      heard = saw-heard op v (made s x);
+      does = λ ps. ap (does ps v words) rest ∙ sym (does-step ps s k v words x told) ∙ ap (does ps m (words_by limits p words s)) end ∙ ap (λ u. record { vp = u; words = words_by limits p words s; served = [] }) (sym new);
+      rests = rw new (came_to-rests o.what m o (saw-sees op v (made s x) is).part);
+    }
 
   stopped-at-once : (o : Outcome) (v n : Vp) (words : List ℕ) → rest_of v op ≡ Ends o → IsOrdered v → n ≡ settled (Ends o) v → Stops limits p op v n words words
-  stopped-at-once o v n words rest is new =
-      record { outcome = o; last = v; halts = ap (λ t. halt limits p t op v words) rest; marked = new; rests = rw new (came_to-rests o.what v o is.part) }
-
-  handed : (q : Request) (k : Reply → Tree Outcome) (v n : Vp) (words : List ℕ) → rest_of v op ≡ Wants q k → n ≡ asking op v → Hands q limits p op v n words words
-  handed q k v n words rest new =
-      record {
-        more = k;
-        last = v;
-        halts = ap (λ t. halt limits p t op v words) rest;
-        asks = new;
-        left = rest;
-        idle = λ lawful. rw new ((subst (Sound limits IsOver (reverse (drop v.first v.seen))) rest lawful).0);
-      }
+  stopped-at-once o v n words rest is new = record {
+    answer = 0;
+    outcome = o;
+    last = v;
+    ends = ap (λ t. after t 0) rest;
+    marked = new;
+    heard = refl;
+    does = λ ps. ap (does ps v words) rest ∙ ap (λ u. record { vp = u; words = words; served = [] }) (sym new);
+    rests = rw new (came_to-rests o.what v o is.part);
+  }
 
 pub same-some : {A : Type 0} (a b : A) → Some a ≡ Some b → a ≡ b
 same-some a b e = cc
@@ -177,7 +191,7 @@ leads-stops what (Some ending) turn limits p op v n words now e stops = rw e sto
 leads-stops (Again grant) None turn limits p op v n words now e stops = rw e stops
 leads-stops what None turn limits p op v n words now e stops = rw e stops
 
-leads-hands : (q : Request) (turn : CpuTurn) (limits : Limits) (p : ℕ) (op : Option Op) (v n : Vp) (words now : List ℕ) → turn ≡ turns.Wants q → Hands q limits p op v n words now → Leads turn limits p op v n words now
+leads-hands : (q : Request) (turn : CpuTurn) (limits : Limits) (p : ℕ) (op : Option Op) (v n : Vp) (words now : List ℕ) → turn ≡ turns.Wants q → Hands q op v n words now → Leads turn limits p op v n words now
 leads-hands q turn limits p op v n words now e hands = rw e hands
 
 module _ (limits : Limits) (p : ℕ) (op : Option Op) (v n : Vp) (before now : Seat) (f g : Fabric) (turn : CpuTurn) (t : Tells limits p before now f g) (is : IsOrdered v) where
@@ -202,7 +216,7 @@ module _ (limits : Limits) (p : ℕ) (op : Option Op) (v n : Vp) (before now : S
       let step = makes-told limits p s x before now f g t turned.1 in
       rw step.words (leads-to s k x (k x) rest turned.1.learns step.answer refl turned.2 turned.3)
   leads-at (Wants q k) rest turned =
-      rw (same-fabric turned.0) (leads-hands q turn limits p op v n f.words f.words turned.2 (handed limits p op q k v n f.words rest turned.1))
+      rw (same-fabric turned.0) (leads-hands q turn limits p op v n f.words f.words turned.2 (record { more = k; left = rest; asks = turned.1; stays = refl }))
 
   -- a turn leads on, to the end or to a request
   pub turn-leads : TurnsBy (rest_of v op) op v before n now turn → (words : List ℕ) → g.words ≡ words → Leads turn limits p op v n f.words words

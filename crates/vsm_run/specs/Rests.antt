@@ -17,7 +17,7 @@ IsAtRest v = v.first ≡ length v.seen
 abbrev pub HasMarkLeft : Vp → Type 0
 HasMarkLeft v = v.ended ≡ None → length (standing v) < v.limits.budget
 
--- the processor at this place: it has started, no attempt of it is under way, and it waits for no reply
+-- the processor at this place: it has started, no attempt of it is under way, and it neither waits for a reply nor has one
 pub record IsInPlace (limits : Limits) (p : ℕ) (v : Vp) : Type 0 where
   pub number : v.number ≡ p
   pub low : p < limits.vps
@@ -25,6 +25,7 @@ pub record IsInPlace (limits : Limits) (p : ℕ) (v : Vp) : Type 0 where
   pub started : v.started ≡ true
   pub rests : IsAtRest v
   pub answered : v.owes ≡ false
+  pub unheard : v.heard ≡ None
   pub left : HasMarkLeft v
 
 -- each processor has started

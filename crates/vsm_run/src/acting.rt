@@ -8,7 +8,7 @@ ghost use Rattle.vsm_report.specs.Trace.{made_steps};
 ghost use Rattle.vsm_run.specs.Fits.{FitsOne};
 ghost use Rattle.vsm_run.specs.Rests.{AllIdle, IsAtRest, IsInPlace};
 ghost use Rattle.vsm_run.specs.Serving.{IsDone, IsFree, with_served};
-ghost use Rattle.vsm_run.specs.Wholes.{Comes, Leads};
+ghost use Rattle.vsm_run.specs.Wholes.{HasHeard, Leads};
 
 use cpu::{Cpu, CpuTurn};
 use fabric::PlainFabric;
@@ -25,37 +25,20 @@ fn turn_at(fabric: &mut PlainFabric, cpu: &mut Cpu, program: &Program) -> CpuTur
     requires fits { FitsOne program.now cpu.old }
     requires limits { cpu.old.limits ≡ fabric.old.limits }
     requires phase { get_or fabric.old.fabric.phases cpu.old.number Phase.Idle ≡ phase_at cpu.old.seen cpu.old.first }
+    requires heard { HasHeard cpu.old }
     ensures leads { Leads result fabric.old.limits cpu.old.number (operation_at program.now cpu.old.state) cpu.old cpu.new fabric.old.fabric.words fabric.new.fabric.words }
     ensures owes { OwesBy result cpu.new.owes }
     ensures limits { fabric.new.limits ≡ fabric.old.limits }
     ensures phase { get_or fabric.new.fabric.phases cpu.old.number Phase.Idle ≡ phase_at cpu.new.seen cpu.new.first }
     ensures others { (q : ℕ) → q ≢ cpu.old.number → get_or fabric.new.fabric.phases q Phase.Idle ≡ get_or fabric.old.fabric.phases q Phase.Idle }
-    ensures few { length cpu.new.seen ≤ cpu.new.first + 34 }
+    ensures first { cpu.new.first ≤ length cpu.new.seen }
+    ensures few { length cpu.new.seen ≤ cpu.new.first + 38 }
 {
     let vp = cpu.vp();
     let mut port = fabric.port(vp);
     let turn = cpu.turn(&mut port, program);
     let _vp = cpu.vp();
     turn
-}
-
-// Lets a processor make the steps of its attempt, up to its end or to its request. No other processor acts meanwhile.
-fn steps_at(fabric: &mut PlainFabric, cpu: &mut Cpu, program: &Program) -> CpuTurn
-    requires going { cpu.old.ended ≡ None }
-    requires place { IsInPlace fabric.old.limits cpu.old.number cpu.old }
-    requires fits { FitsOne program.now cpu.old }
-    requires idle { AllIdle fabric.old.fabric.phases }
-    ensures comes { Comes result fabric.old.limits cpu.old.number (operation_at program.now cpu.old.state) cpu.old cpu.new fabric.old.fabric.words fabric.new.fabric.words }
-    ensures owes { OwesBy result cpu.new.owes }
-    ensures limits { fabric.new.limits ≡ fabric.old.limits }
-    ensures idle { AllIdle fabric.new.fabric.phases }
-{
-    'turns: loop {
-        match turn_at(fabric, cpu, program) {
-            CpuTurn::Moved => {}
-            turn => return turn,
-        }
-    }
 }
 
 // Lets the partition serve a request at once: it adds one entry, with no step on the words.
@@ -75,7 +58,8 @@ fn serve(partition: &mut Partition, fabric: &mut PlainFabric, request: Request) 
     reply
 }
 
-// Lets a processor make its attempt to the end.
+// Lets a processor make its attempt to the end: its steps, and on with the reply to its request, if it has one. No other
+// processor acts meanwhile.
 fn attempt_at(fabric: &mut PlainFabric, partition: &mut Partition, cpu: &mut Cpu, program: &Program)
     requires going { cpu.old.ended ≡ None }
     requires place { IsInPlace fabric.old.limits cpu.old.number cpu.old }
@@ -86,11 +70,21 @@ fn attempt_at(fabric: &mut PlainFabric, partition: &mut Partition, cpu: &mut Cpu
     ensures done { IsDone (made_steps program.now cpu.old partition.old.state fabric.old.fabric.words) cpu.new fabric.new.fabric.words partition.old partition.new }
     ensures limits { fabric.new.limits ≡ fabric.old.limits }
     ensures rests { IsAtRest cpu.new }
+    ensures unheard { cpu.new.heard ≡ None }
     ensures idle { AllIdle fabric.new.fabric.phases }
 {
-    if let CpuTurn::Wants(request) = steps_at(fabric, cpu, program) {
-        let reply = serve(partition, fabric, request);
-        cpu.accept(reply);
+    'turns: loop {
+        match turn_at(fabric, cpu, program) {
+            CpuTurn::Moved => {}
+            CpuTurn::Wants(request) => {
+                let reply = serve(partition, fabric, request);
+                match cpu.accept(reply) {
+                    CpuTurn::Moved => {}
+                    _ => return,
+                }
+            }
+            _ => return,
+        }
     }
 }
 

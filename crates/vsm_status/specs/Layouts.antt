@@ -2,9 +2,9 @@
 use Rattle.std.specs.Prelude.{ℕ, ◌+◌, ◌*◌, ◌/◌, ◌%◌, ◌^◌, ◌==◌, if◌then◌else◌, Option}
 use Rattle.std.specs.Bool.{then_some}
 use Rattle.std.specs.Int.{from_bool}
-use Rattle.vsm_base.specs.Levels.{level_number}
 use Rattle.vsm_base.specs.declared.places.Vtl.{Vtl}
 use Rattle.vsm_base.specs.declared.places.Vtl.TheVariants.{Zero, One}
+use Rattle.vsm_core.specs.Status.{vp_status, partition_status, capabilities, code_page_offsets}
 use Rattle.vsm_status.specs.declared.vp_status.VpStatus.{VpStatus}
 use Rattle.vsm_status.specs.declared.partition_status.PartitionStatus.{PartitionStatus}
 use Rattle.vsm_status.specs.declared.partition_config.PartitionConfig.{PartitionConfig}
@@ -17,7 +17,7 @@ if_has layout bits value = then_some (layout value == bits) value
 
 -- the levels of a processor
 abbrev pub vp_status_bits : VpStatus → ℕ
-vp_status_bits status = level_number status.active + 2 ^ 16 + 2 ^ 17 * from_bool status.one_enabled
+vp_status_bits status = vp_status status.active status.one_enabled
 
 -- the active level, if these are the bits of a status
 abbrev pub level_in : ℕ → Vtl
@@ -28,7 +28,7 @@ read_vp_status bits = if_has vp_status_bits bits (record { active = level_in bit
 
 -- the levels of a partition; the greatest is 1
 abbrev pub partition_status_bits : PartitionStatus → ℕ
-partition_status_bits status = 1 + 2 * from_bool status.one_enabled + 2 ^ 16
+partition_status_bits status = partition_status status.one_enabled
 
 abbrev pub read_partition_status : ℕ → Option PartitionStatus
 read_partition_status bits = if_has partition_status_bits bits (record { one_enabled = bits / 2 % 2 == 1 })
@@ -42,14 +42,14 @@ read_partition_config bits = if_has partition_config_bits bits (record { protect
 
 -- what the hypervisor offers
 abbrev pub capabilities_bits : Capabilities → ℕ
-capabilities_bits capabilities = from_bool capabilities.dr6_shared + 2 ^ 17 * from_bool capabilities.deny_startup
+capabilities_bits offered = capabilities offered.dr6_shared offered.deny_startup
 
 abbrev pub read_capabilities : ℕ → Option Capabilities
 read_capabilities bits = if_has capabilities_bits bits (record { dr6_shared = bits % 2 == 1; deny_startup = bits / 2 ^ 17 % 2 == 1 })
 
 -- where the code of the two switches begins
 abbrev pub code_page_offsets_bits : CodePageOffsets → ℕ
-code_page_offsets_bits offsets = offsets.call + 2 ^ 12 * offsets.back
+code_page_offsets_bits offsets = code_page_offsets offsets.call offsets.back
 
 abbrev pub read_code_page_offsets : ℕ → Option CodePageOffsets
 read_code_page_offsets bits = if_has code_page_offsets_bits bits (record { call = bits % 2 ^ 12; back = bits / 2 ^ 12 % 2 ^ 12 })

@@ -12,11 +12,11 @@ use Rattle.cpu.proofs.beginning.ending.Goals as goal
 pub returns-in-Some-clause-rest : goal.returns-in-Some-clause-rest
 returns-in-Some-clause-rest c = λ number.
     let state : State = state_of c.args.bank.now c.args.levels.now in
-    let from : Origin = origin_at c.args.pages number c.args.bank.now c.args.levels.now c.args.controllers.now in
-    ([], eom-looks (is_zero state.active) (message_page c.args.pages state) c.args.controllers.now.synic.waiting from c.in-Some.page.0 (sym c.looked_page.ensures.page ∙ ap number_of c.in-Some.is))
+    let from : Origin = origin_at c.args.limits number c.args.bank.now c.args.levels.now c.args.controllers.now in
+    ([], eom-looks (is_zero state.active) (message_page c.args.limits.pages state) c.args.controllers.now.synic.waiting from c.in-Some.page.0 (sym c.looked_page.ensures.page ∙ ap number_of c.in-Some.is))
 
 pub returns-in-None-clause-rest : goal.returns-in-None-clause-rest
 returns-in-None-clause-rest c = λ number.
     let state : State = state_of c.args.bank.now c.args.levels.now in
-    let from : Origin = origin_at c.args.pages number c.args.bank.now c.args.levels.now c.args.controllers.now in
-    eom-looks-none (is_zero state.active) (message_page c.args.pages state) c.args.controllers.now.synic.waiting from (sym c.looked_page.ensures.page ∙ ap number_of c.in-None.is)
+    let from : Origin = origin_at c.args.limits number c.args.bank.now c.args.levels.now c.args.controllers.now in
+    eom-looks-none (is_zero state.active) (message_page c.args.limits.pages state) c.args.controllers.now.synic.waiting from (sym c.looked_page.ensures.page ∙ ap number_of c.in-None.is)

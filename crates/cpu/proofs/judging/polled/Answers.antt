@@ -13,18 +13,18 @@ pub returns-then-not-is_wanted-clause-rest : goal.returns-then-not-is_wanted-cla
 returns-then-not-is_wanted-clause-rest c = λ op tree r.
     let state : State = state_of c.args.bank.now c.args.levels.now in
     let held : Controllers = with_taken (held_of c.args.controllers.now) c.args.found in
-    let e = polls-unwanted (is_wanted state held) (assist_page c.args.pages state) (wanted_outcome state held) (unwanted_outcome state held) 2 (sym c.is_wanted.ensures.wanted ∙ c.if-not-is_wanted.true) in
+    let e = polls-unwanted (is_wanted state held) (assist_page c.args.limits.pages state) (wanted_outcome state held) (unwanted_outcome state held) 2 (sym c.is_wanted.ensures.wanted ∙ c.if-not-is_wanted.true) in
     (e.0, r.1 ∙ e.1)
 
 pub returns-in-Some-clause-rest : goal.returns-in-Some-clause-rest
 returns-in-Some-clause-rest c = λ op tree r.
     let state : State = state_of c.args.bank.now c.args.levels.now in
     let held : Controllers = with_taken (held_of c.args.controllers.now) c.args.found in
-    rw c.nothing-plan.ensures.steps ([], r.1 ∙ polls-told (is_wanted state held) (assist_page c.args.pages state) (wanted_outcome state held) (unwanted_outcome state held) 2 c.in-Some.page.0 (sym c.is_wanted.ensures.wanted ∙ c.if-not-is_wanted.false) (sym c.assist_page.ensures.page ∙ ap number_of c.in-Some.is))
+    rw c.nothing-plan.ensures.steps ([], r.1 ∙ polls-told (is_wanted state held) (assist_page c.args.limits.pages state) (wanted_outcome state held) (unwanted_outcome state held) 2 c.in-Some.page.0 (sym c.is_wanted.ensures.wanted ∙ c.if-not-is_wanted.false) (sym c.assist_page.ensures.page ∙ ap number_of c.in-Some.is))
 
 pub returns-in-None-clause-rest : goal.returns-in-None-clause-rest
 returns-in-None-clause-rest c = λ op tree r.
     let state : State = state_of c.args.bank.now c.args.levels.now in
     let held : Controllers = with_taken (held_of c.args.controllers.now) c.args.found in
-    let e = polls-untold (is_wanted state held) (assist_page c.args.pages state) (wanted_outcome state held) (unwanted_outcome state held) 2 (sym c.is_wanted.ensures.wanted ∙ c.if-not-is_wanted.false) (sym c.assist_page.ensures.page ∙ ap number_of c.in-None.is) in
+    let e = polls-untold (is_wanted state held) (assist_page c.args.limits.pages state) (wanted_outcome state held) (unwanted_outcome state held) 2 (sym c.is_wanted.ensures.wanted ∙ c.if-not-is_wanted.false) (sym c.assist_page.ensures.page ∙ ap number_of c.in-None.is) in
     (e.0, r.1 ∙ e.1)

@@ -1,27 +1,25 @@
-use Rattle.std.proofs.Common.{rules, ◌≡◌, ◌+◌, ◌%◌, ◌/◌, ◌∙◌, ◌-◌, ◌++◌, [], ◌∷◌, List, ℕ, refl, sym, ap, arith, take, slice_set}
-use Rattle.std.proofs.lemmas.List.{take_more_set}
-use Rattle.vsm_core.specs.Attempt.{left_for}
-use Rattle.vsm_core.specs.Tree.{reads}
-use Rattle.hyper_abi.specs.Told.{row_for}
-use Rattle.cpu.specs.declared.input.Spot.TheVariants as spots
+use Rattle.std.proofs.Common.{rules, ◌≡◌, ◌<◌, ◌∙◌, length, refl, sym, arith}
 use Rattle.cpu.specs.Inputs.{words_of}
-use Rattle.cpu.proofs.InputWords.{next-read}
+use Rattle.cpu.proofs.InputWords.{next-asks, next-rest}
 use Rattle.cpu.proofs.reading.read.Goals as goal
 
 pub returns : goal.returns
 returns g c =
     let i = c.args.input in
     let x = c.read-value.result in
-    let same : i.page.0 ≡ i.address / 4096 = c.requires.serves.is.same in
-    let index : c.from.result ≡ i.done = c.from.ensures in
-    let words : take (i.done + 1) (slice_set i.words i.done x) ≡ take i.done i.words ++ x ∷ [] = take_more_set i.words i.done x (search rules) in
+    let left : i.done < words_of i = c.requires.serves.is.left in
+    let long : length i.words ≡ 34 = search rules in
+    let low : i.done < 34 = let count = c.words_of-count.ensures in omega (arith, left, count.result, count.few) in
     record {
       event = search rules;
       turned = λ from op tree r.
-          let at = rw c.requires.spot at r.1 in
-          rw (at ∙ next-read (i.address / 4096) (i.address % 4096 / 8) (words_of i.call) i.done (take i.done i.words) (left_for from (row_for i.call).code) c.requires.left)
-          (x, search rules, (r.0, ap (λ (found : List ℕ). reads (i.address / 4096) (i.address % 4096 / 8 + (i.done + 1)) (words_of i.call - (i.done + 1)) found (left_for from (row_for i.call).code)) (sym words)));
-      is = λ pages number is. record { same = is.same; page = is.page; header = is.header; few = let l = c.requires.left in omega arith; fresh = tt };
+          let at = rw c.requires.spot at r.rest in
+          let of = r.of in
+          rw (at ∙ next-asks from i left)
+          (x, search rules, rw (next-rest from i x of long low) (c.after_read-stage.ensures.rest from op (record { level = of.level; count = of.count; start = of.start; output = of.output })));
+      is = λ pages number is.
+          let has = is.has in
+          c.after_read-stage.ensures.is pages number (record { site = has.site; words = has.words; some = has.some; output = has.output; room = has.room; few = has.few; below = has.below });
       at = search rules;
       goes = rw c.requires.spot tt;
     }

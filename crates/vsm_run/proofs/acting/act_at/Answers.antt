@@ -1,4 +1,4 @@
-use Rattle.std.proofs.Common.{arith, ◌≡◌, ◌≤◌, ◌+◌, length, sym, ap, ◌∙◌, subst, length-append, length-take, length-drop, ℕ, ◌-◌, List, ◌++◌, take, drop, map}
+use Rattle.std.proofs.Common.{arith, None, ◌≡◌, ◌≤◌, ◌+◌, length, sym, ap, ◌∙◌, subst, length-append, length-take, length-drop, ℕ, ◌-◌, List, ◌++◌, take, drop, map}
 use Rattle.std.proofs.lemmas.List.{length-map}
 use Rattle.vsm_core.specs.declared.journal.Entry.{Entry}
 use Rattle.vsm_core.specs.declared.mark.Mark.{Mark}
@@ -54,7 +54,7 @@ returns-clause-place c =
     let v = c.args.cpu.now in
     let limits = c.args.fabric.now.limits in
     let e = c.attempt_at.ensures.done.vp in
-    subst (IsInPlace limits v.number) (sym e) (made_steps-place program v c.args.partition.now.state c.args.fabric.now.fabric.words limits v.number c.requires.place (subst IsAtRest e c.attempt_at.ensures.rests))
+    subst (IsInPlace limits v.number) (sym e) (made_steps-place program v c.args.partition.now.state c.args.fabric.now.fabric.words limits v.number c.requires.place (subst IsAtRest e c.attempt_at.ensures.rests) (subst (λ (u : Vp). u.heard ≡ None) e c.attempt_at.ensures.unheard))
 
 pub returns-clause-fits : goal.returns-clause-fits
 returns-clause-fits c =

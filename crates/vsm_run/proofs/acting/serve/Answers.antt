@@ -1,6 +1,6 @@
 use Rattle.std.proofs.Common.{◌≡◌, sym, ◌∙◌, rules}
 use Rattle.fabric.specs.Seats.{plain_stand}
-use Rattle.vsm_run.proofs.AtOnce.{turn-serves, fabric-stays, none-done}
+use Rattle.vsm_run.proofs.AtOnce.{turn-serves, fabric-stays, few-done}
 use Rattle.vsm_run.proofs.acting.serve.Goals as goal
 
 pub unreachable-requires : goal.unreachable-requires
@@ -11,7 +11,7 @@ unreachable-requires c =
 pub returns-clause-done : goal.returns-clause-done
 returns-clause-done c =
     let served = turn-serves c.args.partition.now c.begin.new.self c.turn.new.self c.args.request (plain_stand c.steward.result) (plain_stand c.turn.new.steward) c.turn.result c.requires.free c.begin.ensures.view c.turn.ensures.turn in
-    none-done c.args.partition.now c.args.request c.in-Done.reply (sym c.in-Done.is ∙ served.answer)
+    few-done c.args.partition.now c.args.request c.in-Done.reply (sym c.in-Done.is ∙ served.answer)
 
 pub returns-clause-fabric : goal.returns-clause-fabric
 returns-clause-fabric c =

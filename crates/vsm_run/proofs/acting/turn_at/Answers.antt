@@ -10,7 +10,7 @@ returns-clause-leads c =
     let part = is.part in
     let first = is.first in
     turn-leads c.args.fabric.now.limits c.args.cpu.now.number (operation_at c.args.program.now c.args.cpu.now.state) c.args.cpu.now c.turn-turn.new.self (plain_seat c.port-port.result) (plain_seat c.turn-turn.new.port) c.args.fabric.now.fabric c.turn-turn.new.port.fabric.now.fabric c.turn-turn.result
-    (record { told = search rules; tells = search rules; limits_same = search rules; number = search rules }) (record { part = omega arith; first = first }) (c.turn-turn.ensures.turned c.requires.started) _ (search rules)
+    (record { told = search rules; tells = search rules; limits_same = search rules; number = search rules }) (record { part = omega arith; first = first; heard = c.requires.heard }) (c.turn-turn.ensures.turned c.requires.started) _ (search rules)
 
 pub returns-clause-others : goal.returns-clause-others
 returns-clause-others c = λ q apart.
@@ -18,4 +18,4 @@ returns-clause-others c = λ q apart.
     let part = is.part in
     let first = is.first in
     turn-phases c.args.fabric.now.limits c.args.cpu.now.number (operation_at c.args.program.now c.args.cpu.now.state) c.args.cpu.now c.turn-turn.new.self (plain_seat c.port-port.result) (plain_seat c.turn-turn.new.port) c.args.fabric.now.fabric c.turn-turn.new.port.fabric.now.fabric c.turn-turn.result
-    (record { told = search rules; tells = search rules; limits_same = search rules; number = search rules }) (record { part = omega arith; first = first }) (c.turn-turn.ensures.turned c.requires.started) _ (search rules) q apart
+    (record { told = search rules; tells = search rules; limits_same = search rules; number = search rules }) (record { part = omega arith; first = first; heard = c.requires.heard }) (c.turn-turn.ensures.turned c.requires.started) _ (search rules) q apart

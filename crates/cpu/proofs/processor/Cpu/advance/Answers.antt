@@ -18,19 +18,19 @@ returns-then-not-is_going-clause-turned g c =
     let i = c.self.inside in
     let v = view_of i in
     let u = c.begun-under.result in
-    let means = c.begun-under.ensures.means i.log.seen.0 i.log.part i.log.first c.self.invariant.means in
-    let ends = going-ends (origin_at i.limits.pages i.vp.0 i.bank i.levels i.controllers) u.op u.stage _ (sym c.is_going.ensures ∙ c.if-not-is_going.true) c.in_default.not-Want means.rest in
+    let means = c.begun-under.ensures.means i.heard i.log.seen.0 i.log.part i.log.first c.self.invariant.means in
+    let ends = going-ends (origin_at i.limits i.vp.0 i.bank i.levels i.controllers) u.op u.stage _ (sym c.is_going.ensures ∙ c.if-not-is_going.true) c.in_default.not-Want means.rest in
     let own : operation_at c.args.program.now v.state ≡ Some u.op = rw (← c.operations-ops.ensures) c.begun-under.ensures.op in
-    let v1 : Vp = view_of (record { vp = i.vp; limits = i.limits; zero_length = i.zero_length; one_length = i.one_length; started = i.started; bank = i.bank; levels = i.levels; controllers = i.controllers; under = Some u; owes = i.owes; log = c.stand.new.self }) in
+    let v1 : Vp = view_of (record { vp = i.vp; limits = i.limits; zero_length = i.zero_length; one_length = i.one_length; started = i.started; bank = i.bank; levels = i.levels; controllers = i.controllers; under = Some u; owes = i.owes; heard = i.heard; log = c.stand.new.self }) in
     rw (← c.self.view_is, own) (local-by v v1 c.settle.new.self u.op ends.0 (g.P.Port.seat c.args.port.now) c.settle.result ends.1 (rw c.stand.ensures refl)
-    (λ grant. again-kept (origin_at i.limits.pages i.vp.0 i.bank i.levels i.controllers) i.under u i.log.seen.0 i.log.part i.log.first ends.0 grant c.self.invariant.means c.begun-under.ensures.kept ends.1)
+    (λ grant. again-kept (origin_at i.limits i.vp.0 i.bank i.levels i.controllers) i.under u i.heard i.log.seen.0 i.log.part i.log.first ends.0 grant c.self.invariant.means c.begun-under.ensures.kept ends.1)
     c.settle.ensures.new c.settle.ensures.turn)
 
 pub judged-stage-requires : goal.judged-stage-requires
 judged-stage-requires g c =
     let i = c.self.inside in
     let steps : StageSteps c.begun-under.result.stage (g.P.Port.seat c.args.port.now) (g.P.Port.seat c.step-step.new.port) c.step-step.result = c.step-step.ensures in
-    steps.is i.limits.pages i.vp.0 (c.begun-under.ensures.means i.log.seen.0 i.log.part i.log.first c.self.invariant.means).is
+    steps.is i.limits.pages i.vp.0 (c.begun-under.ensures.means i.heard i.log.seen.0 i.log.part i.log.first c.self.invariant.means).is
 
 pub invariant_of-self-2 : goal.invariant_of-self-2
 invariant_of-self-2 g c =
@@ -42,7 +42,7 @@ invariant_of-self-2 g c =
     let new = g.P.Port.seat c.step-step.new.port in
     let steps : StageSteps u.stage old new c.step-step.result = c.step-step.ensures in
     let phase : old.phase ≡ phase_at i.log.seen.0 i.log.first = rw (← c.self.view_is) at c.requires.serves.phase in
-    let st = stepped (origin_at i.limits.pages i.vp.0 i.bank i.levels i.controllers) u i.log.seen.0 i.log.part i.log.first old new c.step-step.result w.part_le w.first_le phase (c.begun-under.ensures.means i.log.seen.0 i.log.part i.log.first w.means) steps in
+    let st = stepped (origin_at i.limits i.vp.0 i.bank i.levels i.controllers) u i.heard i.log.seen.0 i.log.part i.log.first old new c.step-step.result w.part_le w.first_le phase (c.begun-under.ensures.means i.heard i.log.seen.0 i.log.part i.log.first w.means) steps in
     let going : i.log.ended ≡ None = rw (← c.self.view_is) at c.requires.going in
     let started : i.started ≡ true = rw (← c.self.view_is) at c.requires.started in
     rw (c.see.ensures, c.stand.ensures) (record {
@@ -63,7 +63,7 @@ invariant_of-self-2 g c =
       owing = λ e. let answered : i.owes ≡ false = rw (← c.self.view_is) at c.requires.answered in let no : true ≡ false = sym e ∙ answered in cc;
       waits = λ e. let no : true ≡ false = sym started ∙ e in cc;
       fresh = λ e. refl;
-      means = led-under (origin_at i.limits.pages i.vp.0 i.bank i.levels i.controllers) u.op c.step-step.result.stage c.judged-stage.result _ _ _ st.led (record {
+      means = led-under (origin_at i.limits i.vp.0 i.bank i.levels i.controllers) u.op i.heard c.step-step.result.stage c.judged-stage.result _ _ _ st.led (record {
         is = c.judged-stage.ensures.is;
         rest = c.judged-stage.ensures.rest u.op;
         at = c.judged-stage.ensures.at;
@@ -72,13 +72,13 @@ invariant_of-self-2 g c =
     })
 
 -- what the step did
-way : (g : Over) (c : goal.After-settle-2 g) → Stepped (origin_at c.self.inside.limits.pages c.self.inside.vp.0 c.self.inside.bank c.self.inside.levels c.self.inside.controllers) c.begun-under.result.op c.self.inside.log.seen.0 c.self.inside.log.part c.self.inside.log.first (g.P.Port.seat c.args.port.now) (g.P.Port.seat c.step-step.new.port) c.step-step.result
+way : (g : Over) (c : goal.After-settle-2 g) → Stepped (origin_at c.self.inside.limits c.self.inside.vp.0 c.self.inside.bank c.self.inside.levels c.self.inside.controllers) c.begun-under.result.op c.self.inside.heard c.self.inside.log.seen.0 c.self.inside.log.part c.self.inside.log.first (g.P.Port.seat c.args.port.now) (g.P.Port.seat c.step-step.new.port) c.step-step.result
 way g c =
     let i = c.self.inside in
     let w = c.self.invariant in
     let old = g.P.Port.seat c.args.port.now in
     let phase : old.phase ≡ phase_at i.log.seen.0 i.log.first = rw (← c.self.view_is) at c.requires.serves.phase in
-    stepped (origin_at i.limits.pages i.vp.0 i.bank i.levels i.controllers) c.begun-under.result i.log.seen.0 i.log.part i.log.first old (g.P.Port.seat c.step-step.new.port) c.step-step.result w.part_le w.first_le phase (c.begun-under.ensures.means i.log.seen.0 i.log.part i.log.first w.means) c.step-step.ensures
+    stepped (origin_at i.limits i.vp.0 i.bank i.levels i.controllers) c.begun-under.result i.heard i.log.seen.0 i.log.part i.log.first old (g.P.Port.seat c.step-step.new.port) c.step-step.result w.part_le w.first_le phase (c.begun-under.ensures.means i.heard i.log.seen.0 i.log.part i.log.first w.means) c.step-step.ensures
 
 pub returns-clause-turned : goal.returns-clause-turned
 returns-clause-turned g c =
@@ -86,7 +86,7 @@ returns-clause-turned g c =
     let v = view_of i in
     let u = c.begun-under.result in
     let own : operation_at c.args.program.now v.state ≡ Some u.op = rw (← c.operations-ops.ensures) c.begun-under.ensures.op in
-    let v1 : Vp = view_of (record { vp = i.vp; limits = i.limits; zero_length = i.zero_length; one_length = i.one_length; started = i.started; bank = i.bank; levels = i.levels; controllers = i.controllers; under = Some (record { op = u.op; stage = c.judged-stage.result }); owes = i.owes; log = c.see.new.self }) in
+    let v1 : Vp = view_of (record { vp = i.vp; limits = i.limits; zero_length = i.zero_length; one_length = i.one_length; started = i.started; bank = i.bank; levels = i.levels; controllers = i.controllers; under = Some (record { op = u.op; stage = c.judged-stage.result }); owes = i.owes; heard = i.heard; log = c.see.new.self }) in
     rw (← c.self.view_is, own) (turned-by v v1 c.settle-2.new.self u.op (g.P.Port.seat c.args.port.now) (g.P.Port.seat c.step-step.new.port) c.step-step.result c.settle-2.result (way g c) (rw (c.see.ensures, c.stand.ensures) refl) c.settle-2.ensures.new c.settle-2.ensures.turn)
 
 pub returns-clause-serves : goal.returns-clause-serves
@@ -110,8 +110,8 @@ returns-in-Want-clause-turned g c =
     let i = c.self.inside in
     let v = view_of i in
     let u = c.begun-under.result in
-    let from : Origin = origin_at i.limits.pages i.vp.0 i.bank i.levels i.controllers in
-    let means = c.begun-under.ensures.means i.log.seen.0 i.log.part i.log.first c.self.invariant.means in
+    let from : Origin = origin_at i.limits i.vp.0 i.bank i.levels i.controllers in
+    let means = c.begun-under.ensures.means i.heard i.log.seen.0 i.log.part i.log.first c.self.invariant.means in
     let rest = rw c.in-Want.is at means.rest in
     let own : operation_at c.args.program.now v.state ≡ Some u.op = rw (← c.operations-ops.ensures) c.begun-under.ensures.op in
     rw (← c.self.view_is, own) (wanted-by v _ u.op from c.in-Want.asked (g.P.Port.seat c.args.port.now) c.request.result rest (rw c.stand.ensures refl) (c.request.ensures from refl refl))

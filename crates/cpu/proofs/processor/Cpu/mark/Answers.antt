@@ -14,7 +14,7 @@ pub returns-clause-new : goal.returns-clause-new
 returns-clause-new c =
     let i = c.self.inside in
     let fresh : i.log.again ≡ false = rw (← c.self.view_is) at c.requires.fresh in
-    let from : Origin = origin_at i.limits.pages i.vp.0 i.bank i.levels i.controllers in
+    let from : Origin = origin_at i.limits i.vp.0 i.bank i.levels i.controllers in
     rw (← c.self.view_is, c.mark.ensures, c.active-level.ensures.active, c.word_of-rip.ensures)
     (marked-so (view_of i) (result_of from c.args.op c.args.decided) c.finish-what.result (state_of c.finish-what.new.bank c.finish-what.new.levels) (held_of c.finish-what.new.controllers) c.ending-ended.result fresh
     c.finish-what.ensures.what c.finish-what.ensures.state c.finish-what.ensures.controllers (rw (c.length_of-length.ensures, c.word_of-now.ensures, c.as_slice.ensures) at c.ending-ended.ensures))

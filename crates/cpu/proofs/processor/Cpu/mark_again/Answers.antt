@@ -21,8 +21,9 @@ invariant_of-self-in-None c =
     let room = rw fresh at v.room in
     let mark = mark_in i.log c.active-level.result c.word_of-rip.result (Again c.args.grant) in
     let tidy : i.log.part ≡ i.log.first = rw (← c.self.view_is) at c.requires.tidy in
+    let quiet : i.heard ≡ None = rw (← c.self.view_is) at c.requires.unheard in
     let op : op_of i.under ≡ Some c.args.op = rw (← c.self.view_is) at c.requires.op in
-    let from : Origin = origin_at i.limits.pages i.vp.0 i.bank i.levels i.controllers in
+    let from : Origin = origin_at i.limits i.vp.0 i.bank i.levels i.controllers in
     let asks : (o : Outcome) → attempt from c.args.op ≢ Ends o = rw (← c.self.view_is) at c.requires.asks in
     let more = length-append i.log.marks.0 (mark ∷ []) in
     rw c.mark_again.ensures (record {
@@ -43,5 +44,5 @@ invariant_of-self-in-None c =
       owing = λ e. let answered : i.owes ≡ false = rw (← c.self.view_is) at c.requires.answered in let no : true ≡ false = sym e ∙ answered in cc;
       waits = λ e. let none : op_of None ≡ Some c.args.op = rw (v.waits e) at op in cc;
       fresh = λ e. let none : op_of None ≡ Some c.args.op = rw (v.waits e) at op in cc;
-      means = begun-under from _ i.log.seen.0 i.log.part _ refl (tidy-begun i.log.part _ from c.args.op c.begin-stage.result _ c.begin-stage.ensures.is c.begin-stage.ensures.rest c.begin-stage.ensures.idle (c.begin-stage.ensures.no_poll c.requires.spins c.requires.no_call) asks) c.begin-stage.ensures.is c.begin-stage.ensures.rest c.begin-stage.ensures.idle;
+      means = begun-under from _ i.heard i.log.seen.0 i.log.part _ quiet refl (tidy-begun i.log.part _ from c.args.op c.begin-stage.result _ c.begin-stage.ensures.is c.begin-stage.ensures.rest c.begin-stage.ensures.idle (c.begin-stage.ensures.no_poll c.requires.spins c.requires.no_call) asks) c.begin-stage.ensures.is c.begin-stage.ensures.rest c.begin-stage.ensures.idle;
     })

@@ -24,5 +24,5 @@ invariant_of-result c = record {
   owing = λ e. cc;
   waits = λ e. refl;
   fresh = λ e. refl;
-  means = (rw c.in_ok-seen.ensures refl, refl);
+  means = (rw c.in_ok-seen.ensures refl, refl, refl);
 }

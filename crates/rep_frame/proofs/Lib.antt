@@ -1,0 +1,3 @@
+pub mod Slicing
+pub mod Settings
+pub mod Numbers
