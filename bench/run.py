@@ -57,6 +57,24 @@ def words(count):
     return script(1, lines, [["load Rax 0"]], ["schedule 0"])
 
 
+SELF = "0xffffffffffffffff"
+
+
+def rounds(turns):
+    """Level 1 of processor 0 gives 256 pages their masks again and again, eight a turn; the other processors store and load."""
+    words = [f"word 1 0 {SELF}", "word 1 1 0x1fffffffe", f"word 2 0 {SELF}", "word 2 1 0xfffffffe", "word 2 2 0xd0007", "word 2 4 0x1f"]
+    words += [f"word 3 0 {SELF}", "word 3 1 15"] + [f"word 3 {2 + page} {page}" for page in range(PAGES)]
+    zero = ["set Rcx 0x1000d", f"set Rdx {SELF}", "set R8 1", "hypercall", "set Rcx 0xf", "set Rdx 0x1000", "hypercall", "set Rcx 0", "vtlcall"]
+    one = ["set Rcx 0x100000051", "set Rdx 0x2000", "hypercall", "set Rcx 0x1000000000c", "set Rdx 0x3000", "hypercall", "jump 3"]
+    stores = [op for k in range(31) for op in (f"store {(6 + k) * 4096:#x} {k + 1}", f"load Rax {(6 + k) * 4096:#x}")] + ["jump 0"]
+    head = ["vsm 1", "vps 8", f"pages {PAGES}", "budget 10000", "started 8"] + words
+    bodies = ["program 0 0"] + zero + ["program 0 1"] + one
+    for vp in range(1, 8):
+        bodies += [f"program {vp} 0"] + stores
+    lines = ["schedule " + " ".join(str(vp) for vp in range(8))] * turns
+    return "\n".join(head + bodies + lines + ["end"]) + "\n"
+
+
 CASES = [
     ("walks, 8 processors, 80,000 turns", walks(8, 80_000)),
     ("walks, 8 processors, 40,000 turns", walks(8, 40_000)),
@@ -65,6 +83,8 @@ CASES = [
     ("walks, an entry a turn, 40,000 turns", in_turns(8, 40_000)),
     ("spins in vain, 100,000 turns", spins(100_000)),
     ("spins in vain, 50,000 turns", spins(50_000)),
+    ("rounds over 256 pages, 8 processors, 10,000 turns each", rounds(10_000)),
+    ("rounds over 256 pages, 8 processors, 5,000 turns each", rounds(5_000)),
     ("50,000 words", words(50_000)),
     ("25,000 words", words(25_000)),
 ]

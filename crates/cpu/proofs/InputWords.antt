@@ -1,5 +1,5 @@
 -- Words of an input, one after the other.
-use Rattle.std.proofs.Common.{◌≡◌, ◌<◌, ◌≤◌, ◌+◌, ◌-◌, ◌/◌, ◌%◌, ℕ, suc, nat_lt, Bool, true, false, cond, is_some, Option, Some, None, IfSome, List, [], ◌∷◌, ◌++◌, length, take, drop, slice_set, refl, sym, ap, ◌∙◌, arith}
+use Rattle.std.proofs.Common.{◌≡◌, ◌<◌, ◌≤◌, ◌+◌, ◌-◌, ◌/◌, ℕ, suc, nat_lt, Bool, true, false, cond, is_some, Option, Some, None, IfSome, List, [], ◌∷◌, ◌++◌, length, take, drop, slice_set, refl, sym, ap, ◌∙◌, arith}
 use Rattle.std.proofs.lemmas.Bool.Decides.{nat_tests}
 use Rattle.std.proofs.lemmas.List.{take_more_set, take-append-le, drop-append-le, take_all, drop_all, length-append, length-take-le}
 use Rattle.vsm_base.specs.declared.places.Access.TheVariants.{Read, Write}
@@ -8,7 +8,7 @@ use Rattle.vsm_base.specs.declared.places.Vtl.TheVariants.{Zero, One}
 use Rattle.vsm_core.specs.Attempt.{by_input, by_page_mask, behind_page_mask, behind_output, reads_input, reads_slice}
 use Rattle.vsm_core.specs.Hypercalls.{has_output, output_address}
 use Rattle.vsm_core.specs.Outcomes.{Origin, Outcome}
-use Rattle.vsm_core.specs.RegisterCalls.{count_of, start_of}
+use Rattle.vsm_core.specs.RegisterCalls.{count_of}
 use Rattle.vsm_core.specs.Reps.{slice_past, first_word, words_between}
 use Rattle.vsm_core.specs.Tree.{Tree, Asks, Masking, Reading, reads}
 use Rattle.hyper_abi.specs.Told.{row_for}
@@ -87,7 +87,7 @@ grown from i all = cond (nat_lt (i.done + 1) (header_words i.call)) (grown_heade
 -- the first word of the slice comes next once the header was read
 abbrev slice_at : Origin → Input → (start count : ℕ) → List ℕ → Tree Outcome
 slice_at from i start count all =
-    reads (i.site.address / 4096) (header_place i + header_words i.call + first_word (row_for i.call).element start) (words_between (row_for i.call).element start (slice_past start count)) []
+    reads (i.site.address / 4096) (header_place i + header_words i.call + first_word (row_for i.call).read start) (words_between (row_for i.call).read start (slice_past start count)) []
     (by_input from (row_for i.call).code all)
 
 header-read : (from : Origin) (i : Input) (all : List ℕ) → IsOf from i → length all ≡ header_words i.call → header_words i.call ≡ i.done + 1 → grown_header from i all ≡ grown_slice from i all
@@ -150,6 +150,9 @@ all-read from i all =
     ∙ ap (λ n. reads (i.site.address / 4096) (slice_place i + (i.done - h)) n (slice_found i) (by_input from (row_for i.call).code (header_found i))) none
 
 header-some : (call : Call) → nat_lt 0 (header_words call) ≡ true
+header-some calls.FlushVirtualAddressSpace = refl
+header-some calls.FlushVirtualAddressList = refl
+header-some calls.ModifyVtlProtectionMask = refl
 header-some calls.EnablePartitionVtl = refl
 header-some calls.EnableVpVtl = refl
 header-some calls.GetVpRegisters = refl

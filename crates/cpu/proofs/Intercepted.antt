@@ -1,6 +1,5 @@
 -- What is left of an operation whose register level 1 intercepts.
-use Rattle.std.proofs.Common.{◌≡◌, ℕ, Bool, true, false, cond, Option, Some, None, List, [], ◌++◌, refl, ap, ◌∙◌}
-use Rattle.vsm_core.specs.declared.note.Note.{Note}
+use Rattle.std.proofs.Common.{◌≡◌, ℕ, Bool, true, false, cond, Option, Some, None, [], ◌++◌, refl, ap, ◌∙◌}
 use Rattle.vsm_core.specs.declared.operation.Op.{Op}
 use Rattle.vsm_core.specs.Attempt.{hits_on, in_own_access, posting, told_on}
 use Rattle.vsm_core.specs.Controllers.{message_page}

@@ -7,13 +7,13 @@ use Rattle.vsm_core.specs.Fills.{Cached}
 use Rattle.vsm_core.specs.Outcomes.{Origin, Outcome, note_of, held_outcome}
 use Rattle.vsm_core.specs.Switch.{assist_page, by_interrupt}
 use Rattle.vsm_core.specs.Tree.{Tree, Ends, Asks, Reading, asks_all}
-use Rattle.std.specs.Prelude.{List, [], ◌∷◌}
+use Rattle.std.specs.Prelude.{List, []}
 use Rattle.cpu.specs.declared.decided.Refusal.{Refusal}
 use Rattle.cpu.specs.declared.stage.Stage.{Stage}
 use Rattle.cpu.specs.declared.stage.Stage.TheVariants.{Judge}
 use Rattle.cpu.specs.declared.task.Case.{Case}
 use Rattle.cpu.specs.declared.task.Gate.TheVariants.{Outside}
-use Rattle.cpu.specs.Results.{EndsAs, refusal_of, told_or_held, with_does}
+use Rattle.cpu.specs.Results.{EndsAs, refusal_of, told_or_held}
 use Rattle.cpu.specs.Stages.{StageIs, StageMay}
 use Rattle.cpu.specs.Tasks.{gate_rest, left_as}
 

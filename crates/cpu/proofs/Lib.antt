@@ -13,6 +13,7 @@ pub mod Looked
 pub mod Marking
 pub mod InputWords
 pub mod Intercepted
+pub mod PageSlices
 pub mod Replies
 pub mod Rests
 pub mod Steps

@@ -1,7 +1,6 @@
 -- What is left of a call that has asked the partition for a register.
-use Rattle.std.proofs.Common.{◌≡◌, ◌∙◌, ◌<◌, ◌^◌, ◌/◌, ◌%◌, ℕ, List, [], ◌∷◌, None, refl, sym, ap, arith}
+use Rattle.std.proofs.Common.{◌≡◌, ◌∙◌, ◌<◌, ◌^◌, ◌/◌, ◌%◌, ℕ, [], ◌∷◌, None, sym, ap, arith}
 use Rattle.vsm_base.specs.declared.places.Access.TheVariants.{Write}
-use Rattle.vsm_base.specs.declared.places.Vtl.{Vtl}
 use Rattle.vsm_base.specs.declared.places.Vtl.TheVariants.{Zero, One}
 use Rattle.vsm_core.specs.declared.operation.Op.{Op}
 use Rattle.vsm_core.specs.declared.request.Reply.{Reply}
@@ -11,7 +10,7 @@ use Rattle.vsm_core.specs.Controllers.{writes}
 use Rattle.vsm_core.specs.Hypercalls.{result_outcome}
 use Rattle.vsm_core.specs.Outcomes.{Origin}
 use Rattle.vsm_core.specs.RegisterCalls.{value_words}
-use Rattle.vsm_core.specs.Tree.{Tree, asks_all}
+use Rattle.vsm_core.specs.Tree.{asks_all}
 use Rattle.vsm_core.specs.Outcomes.{Outcome}
 use Rattle.cpu.specs.declared.decided.Decided.TheVariants.{Replied}
 use Rattle.cpu.specs.declared.input.Site.{Site}

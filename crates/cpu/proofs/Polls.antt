@@ -1,7 +1,6 @@
 -- The words that a poll takes.
-use Rattle.std.proofs.Common.{◌≡◌, ◌<◌, ◌≤◌, ◌+◌, ℕ, zero, suc, List, [], ◌∷◌, refl, drop, arith}
+use Rattle.std.proofs.Common.{◌≡◌, ◌<◌, ◌+◌, ℕ, zero, suc, ◌∷◌, refl, drop, arith}
 use Rattle.vsm_core.specs.Controllers.{vector_words}
-use Rattle.vsm_core.specs.declared.event.PendingWord.{PendingWord}
 use Rattle.cpu.specs.Words.{word_at}
 
 abbrev Next : ℕ → Type 0

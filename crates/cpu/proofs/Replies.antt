@@ -1,5 +1,5 @@
 -- The reply that an attempt has had.
-use Rattle.std.proofs.Common.{◌≡◌, ◌≢◌, ◌∙◌, ◌-◌, ◌≤◌, ℕ, suc, List, length, map, take, drop, Option, Some, None, IfSome, refl, ap, sym, arith, Bool, false, length-drop}
+use Rattle.std.proofs.Common.{◌≡◌, ◌≢◌, ◌∙◌, ◌-◌, ◌≤◌, ℕ, suc, List, length, drop, Option, Some, None, IfSome, refl, ap, sym, arith, Bool, false, length-drop}
 use Rattle.std.proofs.lemmas.List.{length-map, take_all}
 use Rattle.vsm_core.specs.declared.event.Event.{Event}
 use Rattle.vsm_core.specs.declared.event.Phase.{Phase}
@@ -16,17 +16,15 @@ use Rattle.vsm_core.specs.Keeps.{EndsIn}
 use Rattle.vsm_core.specs.Outcomes.{Origin, Outcome}
 use Rattle.vsm_core.specs.Processor.{Vp, answers_of, answered, rest_of, settled}
 use Rattle.vsm_core.specs.Steps.{learned}
-use Rattle.vsm_core.specs.Tree.{Tree, Ends, Asks, Wants, WordStep, by_reply, follow, followed}
+use Rattle.vsm_core.specs.Tree.{Tree, Ends, Asks, Wants, WordStep, by_reply, followed}
 use Rattle.vsm_core.proofs.Bounds.{Counts-reply}
-use Rattle.vsm_core.proofs.Requests.{Asked, IsNoAgain, IsOwnRequest, NoAgain, Unasked, own-requests}
+use Rattle.vsm_core.proofs.Requests.{IsNoAgain, IsOwnRequest, NoAgain, Unasked, own-requests}
 use Rattle.cpu.specs.declared.cpu_turn.CpuTurn.{CpuTurn}
-use Rattle.cpu.specs.declared.input.Asked.{Asked as Asks_for}
 use Rattle.cpu.specs.declared.stage.Stage.{Stage}
 use Rattle.cpu.specs.declared.stage.Stage.TheVariants.{Want}
 use Rattle.cpu.specs.declared.stage.Under.{Under}
-use Rattle.cpu.specs.Inputs.{asks_for}
 use Rattle.cpu.specs.Stages.{StageIs, StageAt, StageRest, IsHeard, IsLate, IsTidy, IsUnderWay, IsWant, led_to}
-use Rattle.cpu.specs.Turns.{AcceptsBy, OwesBy, answer_at, after_mark, phase_at}
+use Rattle.cpu.specs.Turns.{AcceptsBy, OwesBy, answer_at, after_mark}
 use Rattle.cpu.proofs.Lists.{drop-length}
 use Rattle.cpu.proofs.Steps.{tidy-same}
 

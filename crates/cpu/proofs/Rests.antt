@@ -1,5 +1,5 @@
 -- What is left of an attempt at its stages.
-use Rattle.std.proofs.Common.{◌≡◌, ◌≢◌, ◌∙◌, ◌<◌, ℕ, ◌==◌, ◌&&◌, Bool, true, false, cond, Option, Some, None, List, [], ◌∷◌, refl, sym, ap, subst, zero, suc, ◌+◌, ◌-◌, ◌/◌, ◌%◌, take, drop}
+use Rattle.std.proofs.Common.{◌≡◌, ◌≢◌, ◌∙◌, ◌<◌, ℕ, ◌==◌, ◌&&◌, Bool, true, false, cond, Option, Some, None, List, [], ◌∷◌, refl, sym, ap, subst, take, drop}
 use Rattle.vsm_base.specs.declared.places.Access.{Access}
 use Rattle.vsm_base.specs.declared.places.Access.TheVariants.{Read, Write, Execute}
 use Rattle.vsm_core.specs.declared.mark.Grant.{Grant}
@@ -16,12 +16,11 @@ use Rattle.vsm_core.specs.declared.operation.Op.TheVariants.{Set, Get, Load, Sto
 use Rattle.vsm_core.specs.declared.operation.Op.TheVariants as ops
 use Rattle.vsm_core.specs.declared.mark.EomWord.TheVariants as eoms
 use Rattle.vsm_core.specs.declared.note.Note.{Note}
-use Rattle.vsm_core.specs.Access.{Goal, Decision, data_step, access}
+use Rattle.vsm_core.specs.Access.{Goal, Decision, data_step}
 use Rattle.vsm_base.specs.declared.status.HvStatus.{HvStatus}
-use Rattle.hyper_abi.specs.Told.{row_for}
 use Rattle.vsm_core.specs.Calls.{Row, row_of, code_in, is_fast}
 use Rattle.vsm_core.specs.Hypercalls.{input_value, input_address, output_address, fast_words, input_refusal}
-use Rattle.vsm_core.specs.Attempt.{attempt, begun, by_refusal, by_memory, requests, left_for, left_with, goal_of, in_own_access, told_on, returns, eom_on, hits_on, intercepted, is_read_hit, is_write_hit, is_wanted, wanted_outcome, unwanted_outcome}
+use Rattle.vsm_core.specs.Attempt.{attempt, begun, by_refusal, by_memory, requests, left_with, goal_of, in_own_access, told_on, returns, eom_on, hits_on, intercepted, is_read_hit, is_write_hit, is_wanted, wanted_outcome, unwanted_outcome}
 use Rattle.vsm_core.specs.Controllers.{Controllers, message_page, eom_by, waiting_then, with_taken}
 use Rattle.vsm_core.specs.Fills.{Cached, Fill}
 use Rattle.vsm_core.specs.Outcomes.{Origin, Outcome, outcome_at, faulted, plain, loaded, passed, spun, set_outcome, get_outcome, empties, note_of, register_note, denied_outcome, held_outcome, hit_outcome, eom_outcome}
@@ -32,7 +31,7 @@ use Rattle.vsm_core.specs.Reps.{RepEnd, Refused as ByElement, GoesOn, Complete}
 use Rattle.rep_frame.specs.Slices.{end_of, setting_refusals}
 use Rattle.vsm_core.specs.State.{State, operand, privilege_of, gone_on, may_name, get, put}
 use Rattle.vsm_core.specs.Switch.{may_call, may_return, may_enter, called, returned, is_zero, assist_page, restored_from, by_call, by_interrupt}
-use Rattle.vsm_core.specs.Tree.{Tree, Ends, Asks, Wants, WordStep, then_, asks_all, reads, follow, followed}
+use Rattle.vsm_core.specs.Tree.{Tree, Ends, Asks, Wants, WordStep, then_, asks_all, follow, followed}
 use Rattle.access_path.specs.declared.aim.Aim.{Aim}
 use Rattle.access_path.specs.declared.place.Place.{Place}
 use Rattle.access_path.specs.declared.place.Place.TheVariants.{Start, Check, TableMask, TableRead, DataMask, Data, Over}
@@ -222,7 +221,7 @@ eom_on-no-again from (Some page) (note ∷ more) = tt
 by_refusal-no-again : (from : Origin) (row : Option Row) (refusal : Option HvStatus) → NoAgain (by_refusal from row refusal)
 by_refusal-no-again from row (Some status) = λ grant e. cc
 by_refusal-no-again from None None = λ grant e. cc
-by_refusal-no-again from (Some row) None = NoAgain-tree (is_fast (input_value from.state)) (requests from row.code (fast_words from.state)) (by_memory from row (input_address from.state)) tt tt
+by_refusal-no-again from (Some row) None = NoAgain-tree (is_fast (input_value from.state)) (requests from row.code (fast_words from.state) []) (by_memory from row (input_address from.state)) tt tt
 
 pub attempt-no-again : (from : Origin) (op : Op) → NoAgain (attempt from op)
 attempt-no-again from (Set name value) =

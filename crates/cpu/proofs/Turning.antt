@@ -17,7 +17,6 @@ use Rattle.vsm_core.specs.Attempt.{attempt, most_steps, most_steps_of}
 use Rattle.vsm_core.specs.Outcomes.{Origin, Outcome}
 use Rattle.vsm_core.specs.Processor.{Vp, answers_of, origin_of, came_to, ending_after, marked_or_ended, rest_of, settled, standing, asking}
 use Rattle.vsm_core.specs.Seat.{Seat, Makes}
-use Rattle.vsm_core.specs.State.{State}
 use Rattle.vsm_core.specs.Steps.{learned, made, phase_after}
 use Rattle.vsm_core.specs.Tree.{Tree, Ends, Asks, Wants, WordStep, after, Counts}
 use Rattle.vsm_core.specs.Turns.{Turned}

@@ -1,7 +1,6 @@
 -- What is left of a hypercall whose input stands in memory, and of one that waits to be served.
-use Rattle.std.specs.Prelude.{◌≡◌, ℕ, ◌+◌, ◌*◌, ◌-◌, ◌/◌, ◌%◌, ◌<◌, ◌≤◌, if◌then◌else◌, nat_lt, is_some, true, Option, Some, None, IfSome, List, replicate, take, drop}
+use Rattle.std.specs.Prelude.{◌≡◌, ℕ, ◌+◌, ◌*◌, ◌-◌, ◌/◌, ◌%◌, ◌<◌, ◌≤◌, if◌then◌else◌, nat_lt, is_some, true, Option, Some, None, IfSome, List, [], take, drop}
 use Rattle.vsm_base.specs.declared.places.Access.TheVariants.{Read, Write}
-use Rattle.vsm_base.specs.declared.places.Vtl.{Vtl}
 use Rattle.vsm_core.specs.declared.event.Phase.{Phase}
 use Rattle.vsm_core.specs.declared.event.Phase.TheVariants as phases
 use Rattle.vsm_core.specs.declared.request.PartCall.{PartCall}
@@ -10,19 +9,20 @@ use Rattle.vsm_core.specs.declared.request.Reply.{Reply}
 use Rattle.vsm_core.specs.declared.request.Request.{Request}
 use Rattle.vsm_core.specs.Attempt.{by_memory, by_input, by_page_mask, behind_page_mask, behind_output, in_access_from, left_with, reads_input, reads_slice}
 use Rattle.vsm_core.specs.Controllers.{writes}
-use Rattle.vsm_core.specs.Calls.{Row}
 use Rattle.vsm_core.specs.Hypercalls.{has_output, output_address, replied, result_outcome}
 use Rattle.vsm_core.specs.Outcomes.{Origin, Outcome}
-use Rattle.vsm_core.specs.RegisterCalls.{count_of, start_of, value_words}
-use Rattle.vsm_core.specs.Reps.{slice_past, first_word, words_between}
+use Rattle.vsm_core.specs.RegisterCalls.{count_of, start_of, slice_outcome, value_words}
+use Rattle.vsm_core.specs.Reps.{slice_past, first_word, words_between, replied_end}
 use Rattle.vsm_core.specs.Seat.{Seat}
 use Rattle.vsm_core.specs.Steps.{IsIn}
-use Rattle.vsm_core.specs.Tree.{Tree, Ends, Asks, Wants, Checking, Masking, Leaving, asks_all, reads}
+use Rattle.vsm_core.specs.Tree.{Tree, Ends, Asks, Wants, Checking, Masking, asks_all, reads}
 use Rattle.hyper_abi.specs.Told.{row_for}
+use Rattle.rep_frame.specs.Asks.{look_call}
 use Rattle.hyper_abi.specs.declared.form.Call.{Call}
 use Rattle.cpu.specs.declared.input.Asked.{Asked}
-use Rattle.cpu.specs.declared.input.Asked.TheVariants.{EnablePartition, EnableVp, Look}
+use Rattle.cpu.specs.declared.input.Asked.TheVariants.{EnablePartition, EnableVp, Modify, Flush, Write, Look}
 use Rattle.cpu.specs.declared.input.Input.{Input}
+use Rattle.cpu.specs.declared.input.PageSlice.{PageSlice}
 use Rattle.cpu.specs.declared.input.Site.{Site}
 use Rattle.cpu.specs.declared.input.Spot.{Spot}
 use Rattle.cpu.specs.declared.input.Spot.TheVariants as spots
@@ -31,7 +31,10 @@ use Rattle.cpu.specs.Sites.{SiteIs}
 abbrev pub part_call : Asked → PartCall
 part_call (EnablePartition words) = parts.EnablePartition words
 part_call (EnableVp words) = parts.EnableVp words
-part_call (Look output at) = parts.ReadStatus
+part_call (Modify slice) = parts.Modify slice.header (record { items = take slice.length slice.pages }) slice.start slice.total
+part_call (Flush total) = parts.Flush total
+part_call (Write value) = parts.WriteConfig value
+part_call (Look register output at) = look_call register
 
 abbrev pub request_for : Origin → Asked → Request
 request_for from asked = record { by = record { 0 = from.number }; level = from.state.active; call = part_call asked }
@@ -48,16 +51,19 @@ looked_at from site at reply =
 
 -- what is left once the request has its reply
 abbrev pub by_answer : Origin → Asked → Reply → Tree Outcome
-by_answer from (Look output at) reply = looked_at from output at reply
+by_answer from (Look register output at) reply = looked_at from output at reply
+by_answer from (Modify slice) reply = Ends (slice_outcome from from.state [] (replied_end reply.status reply.done slice.total))
 by_answer from _ reply = Ends (replied from reply)
 
 -- what is left of a call that asks this of the partition
 abbrev pub asks_for : Origin → Asked → Tree Outcome
 asks_for from asked = Wants (request_for from asked) (by_answer from asked)
 
--- the output is a place of two words in one of so many pages
+-- the output is a place of two words in one of so many pages, and a slice is one
 abbrev pub AskedIs : ℕ → Asked → Type 0
-AskedIs pages (Look output at) = SiteIs pages output × (at + 2 ≤ 512)
+AskedIs pages (Look register output at) = SiteIs pages output × (at + 2 ≤ 512)
+AskedIs pages (Modify slice) = (slice.length ≤ 8) × (slice.start + slice.length ≤ slice.total) × (slice.total < 4096)
+AskedIs pages (Flush total) = total < 4096
 AskedIs pages _ = Unit {0}
 
 -- how many words the header of a call has
@@ -66,10 +72,10 @@ header_words call = (row_for call).header / 8
 
 -- of a slice of elements: the place of its first word behind the header, and how many words it has
 abbrev pub slice_first : Input → ℕ
-slice_first i = first_word (row_for i.call).element i.start
+slice_first i = first_word (row_for i.call).read i.start
 
 abbrev pub slice_words : Input → ℕ
-slice_words i = words_between (row_for i.call).element i.start (slice_past i.start i.count)
+slice_words i = words_between (row_for i.call).read i.start (slice_past i.start i.count)
 
 abbrev pub words_of : Input → ℕ
 words_of i = header_words i.call + slice_words i
@@ -95,6 +101,16 @@ header_found i = take (header_words i.call) (found_in i)
 
 abbrev pub slice_found : Input → List ℕ
 slice_found i = drop (header_words i.call) (found_in i)
+
+-- the pages of a slice that was read
+abbrev pub page_slice_of : Input → PageSlice
+page_slice_of i = record {
+  header = take 2 i.words;
+  pages = take 8 (drop 2 i.words);
+  length = slice_past i.start i.count - i.start;
+  start = i.start;
+  total = i.count;
+}
 
 -- what is left where words of the header come next, and where words of the slice do
 abbrev pub header_rest : Origin → Input → Tree Outcome

@@ -1,5 +1,5 @@
 -- The page whose message slot an end of message looks at.
-use Rattle.std.specs.Prelude.{ℕ, if◌then◌else◌, Option, Some, None, List, [], ◌∷◌}
+use Rattle.std.specs.Prelude.{ℕ, if◌then◌else◌, Option, None, List}
 use Rattle.vsm_core.specs.declared.note.Note.{Note}
 use Rattle.vsm_core.specs.Controllers.{message_page, has_none}
 use Rattle.vsm_core.specs.State.{State}

@@ -1,5 +1,5 @@
 -- What is left of a hypercall whose output is written in an access of its own.
-use Rattle.std.specs.Prelude.{◌≡◌, ℕ, ◌<◌, Some, []}
+use Rattle.std.specs.Prelude.{◌≡◌, ℕ, ◌<◌, []}
 use Rattle.vsm_core.specs.declared.event.Phase.{Phase}
 use Rattle.vsm_core.specs.declared.event.Phase.TheVariants as phases
 use Rattle.vsm_core.specs.declared.operation.Op.{Op}

@@ -1,5 +1,5 @@
 -- What is left of an attempt at a stage, and what a step from a stage is.
-use Rattle.std.specs.Prelude.{◌≡◌, ◌≢◌, ℕ, ◌<◌, ◌≤◌, Option, Some, None, IfSome, Bool, true, false, List, drop, length}
+use Rattle.std.specs.Prelude.{◌≡◌, ◌≢◌, ℕ, ◌<◌, ◌≤◌, Option, Some, None, IfSome, Bool, true, false, List, [], drop, length}
 use Rattle.vsm_core.specs.declared.event.Event.{Event}
 use Rattle.vsm_core.specs.declared.event.Phase.{Phase}
 use Rattle.vsm_core.specs.declared.event.Phase.TheVariants.{Idle, Entered, In}
@@ -207,9 +207,9 @@ abbrev pub IsWant : Stage → Type 0
 IsWant (Want asked) = Unit {0}
 IsWant _ = ⊥
 
--- it asks for this call, with these words of its input
+-- it asks for this call, with these words in place of an input in memory
 abbrev pub WantsCall : Stage → ℕ → List ℕ → Type 0
-WantsCall (Want asked) code words = part_call asked ≡ call_of code words
+WantsCall (Want asked) code words = (start count : ℕ) → part_call asked ≡ call_of code words [] start count
 WantsCall _ code words = ⊥
 
 abbrev pub IsWanting : Option Under → Type 0

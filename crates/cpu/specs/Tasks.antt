@@ -1,5 +1,5 @@
 -- What is left of an attempt where it takes words, touches memory words, or is still to be decided.
-use Rattle.std.specs.Prelude.{◌≡◌, ℕ, ◌+◌, ◌<◌, ◌≤◌, nat_lt, if◌then◌else◌, Option, Some, None, IfSome, List, ◌++◌, take, drop}
+use Rattle.std.specs.Prelude.{◌≡◌, ℕ, ◌+◌, ◌<◌, ◌≤◌, Option, Some, IfSome, List, ◌++◌, take, drop}
 use Rattle.vsm_core.specs.declared.event.Phase.{Phase}
 use Rattle.vsm_core.specs.declared.event.Phase.TheVariants as phases
 use Rattle.vsm_core.specs.declared.operation.Op.{Op}
@@ -10,7 +10,7 @@ use Rattle.vsm_core.specs.Outcomes.{Origin, Outcome, note_of}
 use Rattle.vsm_core.specs.Seat.{Seat}
 use Rattle.vsm_core.specs.Steps.{IsIn}
 use Rattle.vsm_core.specs.Switch.{may_enter, assist_page, by_interrupt, rax_index, rcx_index}
-use Rattle.vsm_core.specs.Tree.{Tree, Ends, Asks, WordStep, Checking, Reading, Leaving, asks_all, takes}
+use Rattle.vsm_core.specs.Tree.{Tree, Asks, WordStep, Checking, Reading, asks_all, takes}
 use Rattle.vtl_switch.specs.Answers.{number_of}
 use Rattle.cpu.specs.declared.decided.Decided.TheVariants.{Returned}
 use Rattle.cpu.specs.declared.task.Case.{Case}

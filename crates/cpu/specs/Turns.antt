@@ -12,6 +12,7 @@ use Rattle.vsm_core.specs.declared.operation.Program.{Program}
 use Rattle.vsm_core.specs.Outcomes.{Outcome, faulted}
 use Rattle.vsm_core.specs.declared.request.Reply.{Reply}
 use Rattle.vsm_core.specs.Processor.{Vp, operation_at, origin_of, saw, settled, asking, answered}
+use Rattle.vsm_core.specs.Protection.{IsSlice}
 use Rattle.vsm_core.specs.Seat.{Seat, Makes}
 use Rattle.vsm_core.specs.Steps.{made, phase_of}
 use Rattle.vsm_core.specs.Tree.{Tree, Ends, Asks, Wants, Taking}
@@ -59,6 +60,11 @@ AcceptsBy _ reply old new turn = ⊥
 abbrev pub OwesBy : CpuTurn → Bool → Type 0
 OwesBy (turns.Wants q) owes = owes ≡ true
 OwesBy _ owes = owes ≡ false
+
+-- a slice of a call that is handed out is one
+abbrev pub HandsSlice : CpuTurn → Type 0
+HandsSlice (turns.Wants q) = IsSlice q.call
+HandsSlice _ = Unit {0}
 
 -- a processor that hasn't started, after it took this from its start word: nothing changes where it was 0, and a start
 -- can't be served yet, so that the processor ends as at an undefined operation

@@ -7,7 +7,7 @@ ghost use Rattle.vsm_core.specs.Tree.{Tree};
 ghost use Rattle.vsm_core.specs.declared.event.Phase.{Phase};
 ghost use Rattle.vsm_core.specs.declared.operation.Op.{Op};
 ghost use Rattle.cpu.specs.Held.{origin_at};
-ghost use Rattle.cpu.specs.Inputs.{InputRead, ReadRest, words_of};
+ghost use Rattle.cpu.specs.Inputs.{InputRead, ReadRest, page_slice_of, words_of};
 ghost use Rattle.cpu.specs.Slices.{got_rest};
 ghost use Rattle.vtl_state.specs.States.{state_of};
 ghost use Rattle.cpu.specs.Sites.{SiteIs, place_at};
@@ -15,14 +15,15 @@ ghost use Rattle.cpu.specs.Stages.{StageRest, StageIs, StageAt};
 
 use crate::controllers::Controllers;
 use crate::decided::Decided;
-use crate::input::{Asked, Input, Site};
+use crate::input::{Asked, Input, PageSlice, Site};
 use crate::plans::put_words;
+use crate::reading::slice_past;
 use crate::slices::decided_by;
 use crate::stage::Stage;
 use crate::task::{Case, Gate, Task};
 use hyper_abi::{Call, ResultValue, register_refusal, target_level};
 use register_file::Bank;
-use rep_frame::{RepFrame, get_slice, is_look};
+use rep_frame::{RepFrame, get_slice, look_in, write_in};
 use vsm_base::{HvStatus, Limits, Page, VpIndex, Vtl};
 use vsm_status::VpStatus;
 use vtl_state::Levels;
@@ -71,6 +72,30 @@ fn refused(start: u16, status: HvStatus) -> Stage
     }
 }
 
+/// The access in which the input was read is left, and then this is asked of the partition.
+fn departing(asked: Asked) -> Stage
+    ensures { result ≡ Stage.Depart asked }
+{
+    Stage::Depart { asked }
+}
+
+/// The pages of a slice, of which this is the first among so many elements.
+fn page_slice(input: &Input) -> PageSlice
+    requires few { input.now.count < 4096 }
+    requires below { input.now.start < input.now.count }
+    ensures { result ≡ page_slice_of input.now }
+{
+    let mut pages = [0; 8];
+    pages.copy_from_slice(&input.words[2..10]);
+    PageSlice {
+        header: pair_of(&input.words),
+        pages,
+        length: (slice_past(input.start, input.count) - input.start) as u8,
+        start: input.start,
+        total: input.count,
+    }
+}
+
 /// A call that sets registers has read its input.
 fn setting(vps: u8, vp: VpIndex, input: Input) -> Stage
     requires call { input.call ≡ Call.SetVpRegisters }
@@ -85,11 +110,17 @@ fn setting(vps: u8, vp: VpIndex, input: Input) -> Stage
     if let Some(status) = register_refusal(vps, vp, input.level, &header) {
         return refused(input.start, status);
     }
+    let target = target_level(input.level, &header);
+    let frame = RepFrame::new(input.count, input.start);
+    let words = slice_of(&input.words);
+    if let Some(value) = write_in(&frame, input.level, target, &words) {
+        return departing(Asked::Write { value });
+    }
     Stage::Leave {
         decided: Decided::Set {
-            target: target_level(input.level, &header),
-            frame: RepFrame::new(input.count, input.start),
-            words: slice_of(&input.words),
+            target,
+            frame,
+            words,
         },
     }
 }
@@ -145,21 +176,16 @@ fn getting(vps: u8, vp: VpIndex, bank: &Bank, levels: &Levels, input: Input, sit
     let frame = RepFrame::new(input.count, input.start);
     let words = slice_of(&input.words);
     let at = place_of(site, input.start);
-    if is_look(&frame, &words) {
-        let output = site;
-        return Stage::Depart {
-            asked: Asked::Look { output, at },
-        };
-    }
     let target = target_level(input.level, &header);
+    if let Some(register) = look_in(&frame, input.level, target, &words) {
+        let output = site;
+        return departing(Asked::Look {
+            register,
+            output,
+            at,
+        });
+    }
     getting_out(vp, bank, levels, target, frame, &words, site.page, at)
-}
-
-/// A call of levels has read its input.
-fn enabling(asked: Asked) -> Stage
-    ensures { result ≡ Stage.Depart asked }
-{
-    Stage::Depart { asked }
 }
 
 /// A hypercall has read its input.
@@ -177,8 +203,11 @@ pub fn given(
     ensures at { (phase : Phase) → StageAt (Stage.Judge (Case.Read input)) phase → StageAt result phase }
 {
     match input.call {
-        Call::EnablePartitionVtl => enabling(Asked::EnablePartition(pair_of(&input.words))),
-        Call::EnableVpVtl => enabling(Asked::EnableVp(thirty_of(&input.words))),
+        Call::FlushVirtualAddressSpace => departing(Asked::Flush { total: input.count }),
+        Call::FlushVirtualAddressList => departing(Asked::Flush { total: input.count }),
+        Call::ModifyVtlProtectionMask => departing(Asked::Modify(page_slice(&input))),
+        Call::EnablePartitionVtl => departing(Asked::EnablePartition(pair_of(&input.words))),
+        Call::EnableVpVtl => departing(Asked::EnableVp(thirty_of(&input.words))),
         Call::GetVpRegisters => {
             let Some(site) = input.output else {
                 unreachable!()

@@ -1,6 +1,6 @@
 use super::*;
 use crate::left::Left;
-use crate::runs::{Answer, Opening, Put, Run, Way, leaves};
+use crate::runs::{Answer, CONFIG, Opening, Put, Run, Way, leaves};
 use std::alloc::Global;
 use std::test::Fail;
 use vsm_base::{Access, Mask, Name, Page, Vtl};
@@ -15,6 +15,19 @@ const ENABLE_PARTITION: u128 = 0xD;
 const ENABLE_PARTITION_FAST: u128 = 0x1_000D;
 
 const ENABLE_VP: u128 = 0xF;
+
+/// The input value of HvCallModifyVtlProtectionMask for ten pages.
+const MODIFY: u128 = 10 << 32 | 0xC;
+
+/// Those of HvCallFlushVirtualAddressList for five elements, and of HvCallGetVpRegisters and HvCallSetVpRegisters for one.
+const FLUSH_LIST: u128 = 5 << 32 | 0x3;
+
+const GET_ONE: u128 = 1 << 32 | 0x50;
+
+const SET_ONE: u128 = 1 << 32 | 0x51;
+
+/// The number of VsmPartitionConfig.
+const PARTITION_CONFIG: u64 = 0x000D_0007;
 
 /// The caller's own partition.
 const SELF: u64 = u64::MAX;
@@ -214,4 +227,102 @@ fn no_mask_binds_level_1(rt: HostRuntime) -> Result<(), Fail> {
         Left::Register(Vtl::One, Name::Rip, 1),
     ];
     calls(rt.alloc(), Vtl::One, &puts, &[3, 6, 1], &left)
+}
+
+/// Makes a hypercall of a level by so many attempts, over a port that answers so. Its input begins at word 1 of page 1 and
+/// its output at word 32.
+fn asks(
+    alloc: Global,
+    level: Vtl,
+    value: u128,
+    answers: &[u64],
+    attempts: usize,
+    left: &[Left],
+) -> Result<(), Fail> {
+    let puts = [
+        (level, Name::Rcx, value),
+        (level, Name::Rdx, 0x1008),
+        (level, Name::R8, 0x1100),
+    ];
+    let run = Run {
+        zero: &CALLS,
+        one: &CALLS,
+        opening: Opening::Both(level, &puts, &[]),
+        way: Way::Fed(answers),
+        attempts,
+        turns: 0,
+    };
+    leaves(alloc, &run, left)
+}
+
+#[test]
+fn a_slice_of_pages_goes_on_or_is_refused(rt: HostRuntime) -> Result<(), Fail> {
+    let alloc = rt.alloc();
+    let page = Page(1);
+    let whole = [3, SELF, 0, 1, 2, 3, 4, 5, 6, 7, 8, 3, SELF, 0, 9, 10];
+    let left = [
+        Left::Whats(&[What::Part(8), What::Reply(10 << 32)]),
+        Left::Many(0, 13),
+        Left::Many(1, 7),
+        Left::Event(
+            1,
+            4,
+            Event::Read {
+                page,
+                index: 11,
+                value: 9,
+            },
+        ),
+        Left::Register(Vtl::One, Name::Rcx, 8 << 48 | MODIFY),
+        Left::Register(Vtl::One, Name::Rax, 10 << 32),
+        Left::Register(Vtl::One, Name::Rip, 1),
+    ];
+    asks(alloc, Vtl::One, MODIFY, &whole, 2, &left)?;
+    let refused = [3, SELF, 0, 1, 2, 3, 99, 5, 6, 7, 8];
+    let left = [
+        Left::Whats(&[What::Reply(3 << 32 | 0x05)]),
+        Left::Register(Vtl::One, Name::Rcx, MODIFY),
+        Left::Register(Vtl::One, Name::Rip, 1),
+    ];
+    asks(alloc, Vtl::One, MODIFY, &refused, 1, &left)
+}
+
+/// Fails unless a hypercall comes to this result by so many steps, of which this is the one at its place.
+fn results_in(
+    alloc: Global,
+    level: Vtl,
+    value: u128,
+    answers: &[u64],
+    reply: u64,
+    steps: usize,
+    at: usize,
+    event: &Event,
+) -> Result<(), Fail> {
+    let left = [
+        Left::Whats(&[What::Reply(reply)]),
+        Left::Steps(steps),
+        Left::Event(0, at, *event),
+    ];
+    asks(alloc, level, value, answers, 1, &left)
+}
+
+#[test]
+fn the_partition_flushes_and_has_its_configuration(rt: HostRuntime) -> Result<(), Fail> {
+    let alloc = rt.alloc();
+    let page = Page(1);
+    let config = CONFIG as u64;
+    let input = [3, 0, 0, 1];
+    let (index, value) = (3, 1);
+    let last = Event::Read { page, index, value };
+    results_in(alloc, Vtl::One, FLUSH_LIST, &input, 5 << 32, 6, 4, &last)?;
+    let input = [3, SELF, 0, PARTITION_CONFIG, 0, config, 0];
+    let (index, value) = (6, 0);
+    let last = Event::Read { page, index, value };
+    results_in(alloc, Vtl::One, SET_ONE, &input, 1 << 32, 9, 7, &last)?;
+    let input = [3, 15, SELF, 0, PARTITION_CONFIG, 0, config, 0];
+    results_in(alloc, Vtl::Zero, SET_ONE, &input, 0x06, 10, 8, &last)?;
+    let input = [3, SELF, 0, PARTITION_CONFIG, 3];
+    let (index, value) = (32, config);
+    let written = Event::Write { page, index, value };
+    results_in(alloc, Vtl::One, GET_ONE, &input, 1 << 32, 11, 8, &written)
 }

@@ -15,10 +15,12 @@ ghost use Rattle.cpu.specs.Admitted.{opening_input, opening_output};
 ghost use Rattle.cpu.specs.Stages.{StageRest, StageIs, StageAt, WantsCall};
 
 use crate::decided::Decided;
-use crate::input::{Asked, Input, Site, Spot};
+use crate::input::{Asked, Input, PageSlice, Site, Spot};
 use crate::stage::Stage;
+use arrayvec::ArrayVec;
 use hyper_abi::{Admission, Call, ResultValue, admit};
 use register_file::{Bank, Context};
+use rep_frame::Look;
 use vsm_base::{HvStatus, Limits, Name, VpIndex, Vtl};
 use vsm_core::{GuestFault, PartCall, Reply, Request, What};
 use vtl_state::{Levels, go_on, privilege_of, put_legal, word_of};
@@ -26,9 +28,12 @@ use vtl_state::{Levels, go_on, privilege_of, put_legal, word_of};
 /// What a fast call asks for.
 fn fast_asked(call: Call, first: u64, second: u64) -> Asked
     requires { (row_for call).may_be_fast ≡ true }
-    ensures { part_call result ≡ call_of (row_for call).code (first ∷ second ∷ []) }
+    ensures { (start count : ℕ) → part_call result ≡ call_of (row_for call).code (first ∷ second ∷ []) [] start count }
 {
     match call {
+        Call::FlushVirtualAddressSpace => unreachable!(),
+        Call::FlushVirtualAddressList => unreachable!(),
+        Call::ModifyVtlProtectionMask => unreachable!(),
         Call::EnablePartitionVtl => Asked::EnablePartition([first, second]),
         Call::EnableVpVtl => unreachable!(),
         Call::GetVpRegisters => unreachable!(),
@@ -42,6 +47,9 @@ fn output_of(call: Call, address: u64) -> Option<Site>
     ensures { result ≡ opening_output call address }
 {
     match call {
+        Call::FlushVirtualAddressSpace => None,
+        Call::FlushVirtualAddressList => None,
+        Call::ModifyVtlProtectionMask => None,
         Call::EnablePartitionVtl => None,
         Call::EnableVpVtl => None,
         Call::GetVpRegisters => Some(Site::at(address)),
@@ -105,6 +113,20 @@ pub fn hypercalling(limits: Limits, bank: &Bank, levels: &Levels) -> Stage
     }
 }
 
+/// The call of a slice of pages.
+fn modify(slice: &PageSlice) -> PartCall
+    ensures { result ≡ part_call (Asked.Modify slice.now) }
+{
+    let mut pages = ArrayVec::from(slice.pages);
+    pages.truncate(usize::from(slice.length));
+    PartCall::Modify {
+        header: slice.header,
+        pages,
+        start: slice.start,
+        total: slice.total,
+    }
+}
+
 /// What a processor asks of the partition.
 pub fn request(vp: VpIndex, levels: &Levels, asked: &Asked) -> Request
     ensures { (from : Origin) → from.number ≡ vp.0 → from.state.active ≡ levels.now.active → result ≡ request_for from asked.now }
@@ -112,7 +134,13 @@ pub fn request(vp: VpIndex, levels: &Levels, asked: &Asked) -> Request
     let call = match asked {
         Asked::EnablePartition(words) => PartCall::EnablePartition(*words),
         Asked::EnableVp(words) => PartCall::EnableVp(*words),
-        Asked::Look { .. } => PartCall::ReadStatus,
+        Asked::Modify(slice) => modify(slice),
+        Asked::Flush { total } => PartCall::Flush { total: *total },
+        Asked::Write { value } => PartCall::WriteConfig(*value),
+        Asked::Look { register, .. } => match register {
+            Look::Status => PartCall::ReadStatus,
+            Look::Config => PartCall::ReadConfig,
+        },
     };
     Request {
         by: vp,

@@ -3,6 +3,7 @@ ghost use Rattle.std.specs.Prelude.{◌≡◌, ◌^◌, ◌/◌, ◌<◌};
 ghost use Rattle.cpu.specs.Sites.{site_at};
 
 use hyper_abi::Call;
+use rep_frame::Look;
 use vsm_base::{Page, Vtl};
 
 /// An address of memory, and its page.
@@ -56,6 +57,17 @@ pub struct Input {
     pub done: u8,
 }
 
+/// A slice of the pages for which a call asks a mask: the words of its header, the pages, of which so many are in the slice,
+/// the index of the first among the call's elements, and how many of these there are.
+#[derive(Clone, Copy, Debug)]
+pub struct PageSlice {
+    pub header: [u64; 2],
+    pub pages: [u64; 8],
+    pub length: u8,
+    pub start: u16,
+    pub total: u16,
+}
+
 /// What a call asks of the partition.
 #[derive(Clone, Copy, Debug)]
 pub enum Asked {
@@ -63,6 +75,20 @@ pub enum Asked {
     EnablePartition([u64; 2]),
     /// HvCallEnableVpVtl, with the words of its input.
     EnableVp([u64; 30]),
-    /// The register of the partition, whose value then goes to this place in the page of the output.
-    Look { output: Site, at: u16 },
+    /// HvCallModifyVtlProtectionMask, with its next slice.
+    Modify(PageSlice),
+    /// A flush of all translations by a call that has so many elements.
+    Flush {
+        total: u16,
+    },
+    /// The configuration of the partition is to have this value.
+    Write {
+        value: u128,
+    },
+    /// A register of the partition, whose value then goes to this place in the page of the output.
+    Look {
+        register: Look,
+        output: Site,
+        at: u16,
+    },
 }

@@ -8,7 +8,7 @@ ghost use Rattle.vsm_core.specs.Tree.{Ends, by_reply};
 ghost use Rattle.cpu.specs.Sound.{length_at};
 ghost use Rattle.vtl_state.specs.States.{state_of};
 ghost use Rattle.cpu.specs.Results.{result_of};
-ghost use Rattle.cpu.specs.Turns.{Keeps, VpServes, TurnsBy, AcceptsBy, OwesBy, Wakes, answer_at, after_mark, phase_at};
+ghost use Rattle.cpu.specs.Turns.{HandsSlice, Keeps, VpServes, TurnsBy, AcceptsBy, OwesBy, Wakes, answer_at, after_mark, phase_at};
 
 use crate::beginning::{begin, begun};
 use crate::controllers::Controllers;
@@ -275,6 +275,7 @@ impl Cpu {
         ensures same { IsSameProcessor self.old self.new }
         ensures kept { IfSome self.new.op (λ op. operation_at program.now self.new.state ≡ Some op) }
         ensures owes { OwesBy result self.new.owes }
+        ensures slices { HandsSlice result }
         ensures within { length self.new.marks ≤ self.old.limits.budget }
     {
         let ops = operations(program, &self.levels);
@@ -326,6 +327,7 @@ impl Cpu {
         ensures same { IsSameProcessor self.old self.new }
         ensures idle { self.new.op ≡ None }
         ensures owes { OwesBy result self.new.owes }
+        ensures slices { HandsSlice result }
         ensures within { length self.new.marks ≤ self.old.limits.budget }
     {
         let level = self.levels.active();
@@ -371,7 +373,9 @@ impl Cpu {
     /// header is read from memory, unless it is fast; level 0 needs a page that it may read (TLFS, Hypercall Interface). A
     /// call that gets or sets registers reads one slice of its elements, too, and acts on them (see `rep_frame`): where
     /// elements are left RCX tells which is next, and RAX and Rip stay. One that gets registers needs a page that level 0 may
-    /// write. The status of the partition is asked of the partition, and written in an access of its own.
+    /// write. A call for masks reads one slice of its pages, which the partition is asked for, at most eight (TLFS,
+    /// HvCallModifyVtlProtectionMask). The partition is also asked for a flush, whose elements aren't read, and to write its
+    /// configuration. Its status and its configuration are asked of it, and written in an access of their own.
     ///
     /// A set or a get of level 0 that level 1 intercepts (see `reg_intercept::Watch`) changes no register: level 1 is told by
     /// one note and entered (TLFS, HV_REGISTER_CR_INTERCEPT_CONTROL).
@@ -393,6 +397,7 @@ impl Cpu {
         ensures same { IsSameProcessor self.old self.new }
         ensures kept { IfSome self.new.op (λ op. operation_at program.now self.new.state ≡ Some op) }
         ensures owes { OwesBy result self.new.owes }
+        ensures slices { HandsSlice result }
         ensures within { length self.new.marks ≤ self.old.limits.budget }
     {
         if self.started {
@@ -404,7 +409,8 @@ impl Cpu {
 
     /// Takes the reply to the request that the last turn answered. The attempt goes on by it, or comes to its end: RAX has
     /// the result, and where the reply brings a context, level 1 is enabled with it (TLFS, HvCallEnableVpVtl). All other
-    /// registers but Rip stay. It makes no step and takes no memory.
+    /// registers but Rip stay. Where a slice of pages was served and elements of its call are left, RCX tells which is next
+    /// instead, and RAX and Rip stay (TLFS, Rep Hypercalls). It makes no step and takes no memory.
     ///
     /// It needs a processor that waits for a reply, and fewer than 4096 elements done.
     pub fn accept(&mut self, reply: Reply) -> CpuTurn

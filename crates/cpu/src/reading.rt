@@ -39,6 +39,9 @@ pub fn header_words(call: Call) -> u8
     ensures { result ≡ header_words_lem call }
 {
     match call {
+        Call::FlushVirtualAddressSpace => 3,
+        Call::FlushVirtualAddressList => 3,
+        Call::ModifyVtlProtectionMask => 2,
         Call::EnablePartitionVtl => 2,
         Call::EnableVpVtl => 30,
         Call::GetVpRegisters => 2,
@@ -49,9 +52,12 @@ pub fn header_words(call: Call) -> u8
 /// The place behind the header of the first word that has the element of a slice from which it begins.
 fn slice_first(call: Call, start: u16) -> u16
     requires { (row_for call).is_rep ≡ true → start < 4096 }
-    ensures { result ≡ first_word_lem (row_for call).element start }
+    ensures { result ≡ first_word_lem (row_for call).read start }
 {
     match call {
+        Call::FlushVirtualAddressSpace => 0,
+        Call::FlushVirtualAddressList => 0,
+        Call::ModifyVtlProtectionMask => start,
         Call::EnablePartitionVtl => 0,
         Call::EnableVpVtl => 0,
         Call::GetVpRegisters => 4 * start / 8,
@@ -63,10 +69,13 @@ fn slice_first(call: Call, start: u16) -> u16
 fn slice_words(call: Call, start: u16, count: u16) -> u8
     requires few { count < 4096 }
     requires below { (row_for call).is_rep ≡ true → start < count }
-    ensures result { result ≡ words_between_lem (row_for call).element start (slice_past_lem start count) }
+    ensures result { result ≡ words_between_lem (row_for call).read start (slice_past_lem start count) }
     ensures few { header_words_lem call + result ≤ 34 }
 {
     match call {
+        Call::FlushVirtualAddressSpace => 0,
+        Call::FlushVirtualAddressList => 0,
+        Call::ModifyVtlProtectionMask => (slice_past(start, count) - start) as u8,
         Call::EnablePartitionVtl => 0,
         Call::EnableVpVtl => 0,
         Call::GetVpRegisters => {

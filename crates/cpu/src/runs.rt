@@ -1,5 +1,5 @@
 // Runs of a processor from an opening over a port, and what each must leave.
-ghost use Rattle.std.specs.Prelude.{◌≡◌, get_or, IfOk, IfSome, None, false};
+ghost use Rattle.std.specs.Prelude.{◌≡◌, ◌<◌, get_or, IfOk, IfSome, None, false};
 ghost use Rattle.cpu.specs.Turns.{VpServes, Fits, phase_at};
 
 use super::*;
@@ -193,25 +193,53 @@ fn context_in(words: &[u64; 30]) -> [u64; 28] {
     context
 }
 
+/// The configuration of the partition of these tests.
+pub const CONFIG: u128 = 0x1F;
+
+/// A reply without a context, where so many elements are done.
+fn reply_of(status: HvStatus, done: u16, value: u64) -> Reply
+    ensures { result.done < 4096 }
+{
+    Reply {
+        status,
+        done: done.min(4095),
+        value,
+        context: None,
+    }
+}
+
+/// What is replied to a slice of pages, of which each is one more than its index: it is refused at the first other one.
+fn modified(start: u16, pages: &[u64]) -> Reply
+    ensures { result.done < 4096 }
+{
+    let mut done = start;
+    for page in pages {
+        if *page != u64::from(done).saturating_add(1) {
+            return reply_of(HvStatus::INVALID_PARAMETER, done, 0);
+        }
+        done = done.saturating_add(1);
+    }
+    reply_of(HvStatus::SUCCESS, done, 0)
+}
+
 /// What a partition of these tests replies, by the words of the request alone.
 fn reply_to(request: &Request) -> Reply
-    ensures { result.done ≡ 0 }
+    ensures { result.done < 4096 }
 {
-    let mut reply = Reply {
-        status: HvStatus::INVALID_HYPERCALL_CODE,
-        done: 0,
-        value: 0,
-        context: None,
-    };
     match &request.call {
-        PartCall::EnablePartition(words) => reply.status = status_of(request.by, words),
+        PartCall::EnablePartition(words) => reply_of(status_of(request.by, words), 0, 0),
         PartCall::EnableVp(words) => {
-            reply.status = status_of(request.by, words);
-            reply.context = Some((Vtl::One, context_in(words), None));
+            Reply {
+                context: Some((Vtl::One, context_in(words), None)),
+                ..reply_of(status_of(request.by, words), 0, 0)
+            }
         }
-        _ => {}
+        PartCall::Modify { pages, start, .. } => modified(*start, pages.as_slice()),
+        PartCall::Flush { total } => reply_of(HvStatus::SUCCESS, *total, 0),
+        PartCall::WriteConfig(value) if *value == CONFIG => reply_of(HvStatus::SUCCESS, 1, 0),
+        PartCall::ReadConfig => reply_of(HvStatus::SUCCESS, 1, CONFIG as u64),
+        _ => reply_of(HvStatus::INVALID_HYPERCALL_CODE, 0, 0),
     }
-    reply
 }
 
 fn answer_of(turn: &CpuTurn) -> Answer {

@@ -72,7 +72,7 @@ pub fn admit(pages: u32, value: u64, address: u64, output: u64) -> Result<Admiss
     ensures below { IfOk result (λ a. (row_for a.call).is_rep ≡ true → a.start < a.count) }
     ensures page { IfOk result (λ a. a.fast ≡ false → address / 4096 < pages) }
     ensures header { IfOk result (λ a. a.fast ≡ false → address % 4096 / 8 + (row_for a.call).header / 8 ≤ 512) }
-    ensures slice { IfOk result (λ a. a.fast ≡ false → address % 4096 / 8 + (row_for a.call).header / 8 + first_word (row_for a.call).element a.start + words_between (row_for a.call).element a.start (slice_past a.start a.count) ≤ 512) }
+    ensures slice { IfOk result (λ a. a.fast ≡ false → address % 4096 / 8 + (row_for a.call).header / 8 + first_word (row_for a.call).read a.start + words_between (row_for a.call).read a.start (slice_past a.start a.count) ≤ 512) }
     ensures output_page { IfOk result (λ a. a.fast ≡ false → has_output (row_for a.call) ≡ true → output / 4096 < pages) }
     ensures output { IfOk result (λ a. a.fast ≡ false → has_output (row_for a.call) ≡ true → output % 4096 / 8 + 2 * a.count ≤ 512) }
     ensures may_be_fast { IfOk result (λ a. a.fast ≡ true → (row_for a.call).may_be_fast ≡ true) }

@@ -16,6 +16,8 @@ pub struct CallForm {
     pub header: u16,
     /// How many bytes each of its elements has, 0 where it has none.
     pub element: u16,
+    /// How many bytes of each of its elements are read, 0 where none is.
+    pub read: u16,
     /// How many bytes it puts out for each element, 0 where it puts out nothing.
     pub output: u16,
 }
@@ -23,6 +25,12 @@ pub struct CallForm {
 /// A call that there is.
 #[derive(Clone, Copy, Debug, PartialEq, Eq)]
 pub enum Call {
+    /// HvCallFlushVirtualAddressSpace.
+    FlushVirtualAddressSpace,
+    /// HvCallFlushVirtualAddressList.
+    FlushVirtualAddressList,
+    /// HvCallModifyVtlProtectionMask.
+    ModifyVtlProtectionMask,
     /// HvCallEnablePartitionVtl.
     EnablePartitionVtl,
     /// HvCallEnableVpVtl.
@@ -34,9 +42,10 @@ pub enum Call {
 }
 
 impl Call {
-    /// The call of this code: 0x000D is HvCallEnablePartitionVtl and 0x000F is HvCallEnableVpVtl (TLFS, Virtual Secure
-    /// Mode), 0x0050 is HvCallGetVpRegisters and 0x0051 is HvCallSetVpRegisters (TLFS, Virtual Processors). That there are
-    /// no other calls is this project's own.
+    /// The call of this code: 0x0002 is HvCallFlushVirtualAddressSpace and 0x0003 is HvCallFlushVirtualAddressList (TLFS,
+    /// Virtual MMU), 0x000C is HvCallModifyVtlProtectionMask, 0x000D is HvCallEnablePartitionVtl and 0x000F is
+    /// HvCallEnableVpVtl (TLFS, Virtual Secure Mode), 0x0050 is HvCallGetVpRegisters and 0x0051 is HvCallSetVpRegisters
+    /// (TLFS, Virtual Processors). That there are no other calls is this project's own.
     ///
     /// `None` exactly where no call has the code.
     #[tactic(auto, unfolding(vsm_core::specs::Calls::row_of, vsm_core::specs::Calls::rows))]
@@ -44,6 +53,9 @@ impl Call {
         ensures { option_map row_for result ≡ row_of code }
     {
         match code {
+            0x0002 => Some(Call::FlushVirtualAddressSpace),
+            0x0003 => Some(Call::FlushVirtualAddressList),
+            0x000C => Some(Call::ModifyVtlProtectionMask),
             0x000D => Some(Call::EnablePartitionVtl),
             0x000F => Some(Call::EnableVpVtl),
             0x0050 => Some(Call::GetVpRegisters),
@@ -52,17 +64,46 @@ impl Call {
         }
     }
 
-    /// The form of its input and output. Those that get and set registers are rep calls.
+    /// The form of its input and output. Those that get and set registers or ask for masks are rep calls, and so is the
+    /// flush of a list, whose elements aren't read: a flush here is always of all translations, which is this project's own.
     pub fn form(self) -> CallForm
         ensures { row_from result ≡ row_for self }
     {
         match self {
+            Call::FlushVirtualAddressSpace => CallForm {
+                code: 0x0002,
+                rep: false,
+                fast: false,
+                header: 24,
+                element: 0,
+                read: 0,
+                output: 0,
+            },
+            Call::FlushVirtualAddressList => CallForm {
+                code: 0x0003,
+                rep: true,
+                fast: false,
+                header: 24,
+                element: 8,
+                read: 0,
+                output: 0,
+            },
+            Call::ModifyVtlProtectionMask => CallForm {
+                code: 0x000C,
+                rep: true,
+                fast: false,
+                header: 16,
+                element: 8,
+                read: 8,
+                output: 0,
+            },
             Call::EnablePartitionVtl => CallForm {
                 code: 0x000D,
                 rep: false,
                 fast: true,
                 header: 16,
                 element: 0,
+                read: 0,
                 output: 0,
             },
             Call::EnableVpVtl => CallForm {
@@ -71,6 +112,7 @@ impl Call {
                 fast: false,
                 header: 240,
                 element: 0,
+                read: 0,
                 output: 0,
             },
             Call::GetVpRegisters => CallForm {
@@ -79,6 +121,7 @@ impl Call {
                 fast: false,
                 header: 16,
                 element: 4,
+                read: 4,
                 output: 16,
             },
             Call::SetVpRegisters => CallForm {
@@ -87,6 +130,7 @@ impl Call {
                 fast: false,
                 header: 16,
                 element: 32,
+                read: 32,
                 output: 0,
             },
         }

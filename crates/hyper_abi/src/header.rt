@@ -64,8 +64,9 @@ fn names_level(byte: u64) -> bool
     byte / (1 << 4) % 2 == 1
 }
 
-/// Whether no level is named but 0 and 1, and no bit is set above bit 4 or behind the byte.
-fn is_byte_form(words: &[u64; 2]) -> bool
+/// Whether a call's input VTL byte names no level but 0 and 1, and no bit is set above bit 4 or behind the byte (TLFS,
+/// HV_INPUT_VTL).
+pub fn is_byte_form(words: &[u64; 2]) -> bool
     ensures { result ≡ is_byte_form words.now }
 {
     let byte = target_of(words);

@@ -14,7 +14,8 @@ pub use admission::{Admission, admit};
 pub use control::Control;
 pub use form::{Call, CallForm, form_of};
 pub use header::{
-    index_of, is_other_partition, named, padding_of, register_refusal, target_level, target_of,
+    index_of, is_byte_form, is_other_partition, named, padding_of, register_refusal, target_level,
+    target_of,
 };
 pub use page::InputPage;
 pub use registers::{Setting, get_refusal, register_of, set_refusal};

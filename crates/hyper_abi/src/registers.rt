@@ -50,6 +50,7 @@ pub fn register_of(number: u32) -> Option<CallRegister>
         0x000D_0003 => Some(CallRegister::VpStatus),
         0x000D_0004 => Some(CallRegister::PartitionStatus),
         0x000D_0006 => Some(CallRegister::Capabilities),
+        0x000D_0007 => Some(CallRegister::PartitionConfig),
         _ => None,
     }
 }
@@ -62,7 +63,7 @@ fn is_level_one(register: CallRegister) -> bool
         register,
         CallRegister::Kept(
             Name::CrInterceptControl | Name::CrInterceptCr0Mask | Name::CrInterceptCr4Mask
-        )
+        ) | CallRegister::PartitionConfig
     )
 }
 
@@ -70,7 +71,10 @@ fn is_level_one(register: CallRegister) -> bool
 fn is_partitions(register: CallRegister) -> bool
     ensures { result ≡ is_partitions register }
 {
-    matches!(register, CallRegister::PartitionStatus)
+    matches!(
+        register,
+        CallRegister::PartitionStatus | CallRegister::PartitionConfig
+    )
 }
 
 fn is_end_of_message(register: CallRegister) -> bool
@@ -148,9 +152,10 @@ fn value_refusal(
 /// call has so many elements, below 4096.
 ///
 /// The first of these that holds, in this project's own order: `HvStatus::INVALID_PARAMETER` where no register has the
-/// number, or where it is the partition's status and the call has other elements; `HvStatus::ACCESS_DENIED` where it is a
-/// register of level 1 alone and the caller is level 0; and `HvStatus::INVALID_PARAMETER` where it is one and level 0 is
-/// meant, or where it is the end of a message. `None` exactly where none does.
+/// number, or where it is a register of the partition, its status or its configuration, and the call has other elements;
+/// `HvStatus::ACCESS_DENIED` where it is a register of level 1 alone, the partition's configuration among them, and the
+/// caller is level 0; and `HvStatus::INVALID_PARAMETER` where it is one and level 0 is meant, or where it is the end of a
+/// message. `None` exactly where none does.
 pub fn get_refusal(caller: Vtl, target: Vtl, count: u16, number: u32) -> Option<HvStatus>
     ensures { result ≡ get_refusal caller target count number }
 {

@@ -3,6 +3,12 @@ use crate::control::is_malformed;
 use vsm_base::{HvStatus, Name, VpIndex, Vtl};
 use vsm_core::CallRegister;
 
+const FLUSH_SPACE: u64 = 0x0002;
+
+const FLUSH_LIST: u64 = 0x0003;
+
+const MODIFY_MASK: u64 = 0x000C;
+
 const ENABLE_PARTITION_VTL: u64 = 0x000D;
 
 const ENABLE_VP_VTL: u64 = 0x000F;
@@ -18,6 +24,7 @@ const REP: CallForm = CallForm {
     fast: false,
     header: 16,
     element: 8,
+    read: 8,
     output: 0,
 };
 
@@ -86,6 +93,46 @@ fn a_call_is_fast_where_it_may_be(rt: HostRuntime) {
 }
 
 #[test]
+fn a_flush_of_a_space_has_no_elements(rt: HostRuntime) {
+    assert_eq!(rt; Control::read(FLUSH_SPACE), single(0x0002, false));
+    assert!(rt;
+        is_refused(rep(FLUSH_SPACE, 1, 0), HvStatus(0x0003)),
+        "count"
+    );
+    assert!(rt;
+        is_refused(rep(FLUSH_SPACE, 0, 1), HvStatus(0x0003)),
+        "start"
+    );
+    assert!(rt; is_refused(FLUSH_SPACE | 1 << 16, HvStatus(0x0003)), "fast");
+}
+
+#[test]
+fn a_flush_of_a_list_and_a_change_of_masks_have_elements(rt: HostRuntime) {
+    for code in [0x0003, 0x000C] {
+        let value = u64::from(code);
+        let last = Control {
+            code,
+            fast: false,
+            count: 3,
+            start: 2,
+        };
+        assert_eq!(rt; Control::read(rep(value, 3, 2)), Ok(last), "{code}");
+        assert!(rt;
+            is_refused(value, HvStatus(0x0003)),
+            "{code} without elements"
+        );
+        assert!(rt;
+            is_refused(rep(value, 3, 3), HvStatus(0x0003)),
+            "{code} past the last"
+        );
+        assert!(rt;
+            is_refused(rep(value, 3, 2) | 1 << 16, HvStatus(0x0003)),
+            "{code} fast"
+        );
+    }
+}
+
+#[test]
 fn each_field_is_read_from_its_bits(rt: HostRuntime) {
     let control = Control {
         code: 0xBEEF,
@@ -127,6 +174,7 @@ fn calls_have_their_sizes(rt: HostRuntime) {
         fast: true,
         header: 16,
         element: 0,
+        read: 0,
         output: 0,
     };
     let level = CallForm {
@@ -141,11 +189,13 @@ fn calls_have_their_sizes(rt: HostRuntime) {
         fast: false,
         header: 16,
         element: 4,
+        read: 4,
         output: 16,
     };
     let set = CallForm {
         code: 0x0051,
         element: 32,
+        read: 32,
         output: 0,
         ..get
     };
@@ -154,6 +204,36 @@ fn calls_have_their_sizes(rt: HostRuntime) {
     assert_eq!(rt; form_of(0x0050), Some(get));
     assert_eq!(rt; form_of(0x0051), Some(set));
     assert_eq!(rt; form_of(0x000E), None);
+}
+
+#[test]
+fn calls_of_protection_have_their_sizes(rt: HostRuntime) {
+    let space = CallForm {
+        code: 0x0002,
+        rep: false,
+        fast: false,
+        header: 24,
+        element: 0,
+        read: 0,
+        output: 0,
+    };
+    let list = CallForm {
+        code: 0x0003,
+        rep: true,
+        element: 8,
+        ..space
+    };
+    let modify = CallForm {
+        code: 0x000C,
+        header: 16,
+        read: 8,
+        ..list
+    };
+    assert_eq!(rt; form_of(0x0002), Some(space));
+    assert_eq!(rt; form_of(0x0003), Some(list));
+    assert_eq!(rt; form_of(0x000C), Some(modify));
+    assert_eq!(rt; form_of(0x0004), None);
+    assert_eq!(rt; form_of(0x000B), None);
 }
 
 #[test]
@@ -244,7 +324,7 @@ fn a_call_is_judged_by_its_value_and_then_by_its_address(rt: HostRuntime) {
     assert!(rt; is_admitted(fast, 0x2FFF, 1, whole(Call::EnablePartitionVtl, true)));
 }
 
-/// A call that gets or sets `count` registers from the one of index `start` on.
+/// A call of `count` elements that goes on at the one of index `start`.
 fn rep(code: u64, count: u64, start: u64) -> u64 {
     code | count << 32 | start << 48
 }
@@ -304,6 +384,72 @@ fn all_elements_of_a_rep_call_stand_in_the_page(rt: HostRuntime) {
     );
 }
 
+#[test]
+fn the_header_of_a_flush_stands_in_the_page(rt: HostRuntime) {
+    let space = whole(Call::FlushVirtualAddressSpace, false);
+    assert!(rt; is_admitted(FLUSH_SPACE, 0x1FE8, 1, space));
+    assert!(rt;
+        is_not_admitted(FLUSH_SPACE, 0x1FF0, 1, HvStatus(0x0003)),
+        "long"
+    );
+    assert!(rt;
+        is_not_admitted(FLUSH_SPACE, 0x1FE4, 1, HvStatus(0x0004)),
+        "askew"
+    );
+    assert!(rt;
+        is_not_admitted(FLUSH_SPACE, 0x2FE8, 1, HvStatus(0x0005)),
+        "no page"
+    );
+    assert!(rt;
+        is_not_admitted(rep(FLUSH_SPACE, 1, 0), 1, 1, HvStatus(0x0003)),
+        "a count"
+    );
+    assert!(rt;
+        is_not_admitted(FLUSH_SPACE | 1 << 16, 1, 1, HvStatus(0x0003)),
+        "fast"
+    );
+}
+
+/// Rep calls of protection with how many elements fill a page, and where twenty elements end with it.
+const FILLING: [(Call, u64, u64, u64); 2] = [
+    (Call::FlushVirtualAddressList, FLUSH_LIST, 509, 0x1F48),
+    (Call::ModifyVtlProtectionMask, MODIFY_MASK, 510, 0x1F50),
+];
+
+#[test]
+fn all_elements_of_a_call_of_protection_stand_in_the_page(rt: HostRuntime) {
+    for (call, code, filling, at) in FILLING {
+        let twenty = rep(code, 20, 19);
+        let admission = Admission {
+            call,
+            fast: false,
+            count: 20,
+            start: 19,
+        };
+        assert!(rt; is_admitted(twenty, at, 1, admission), "{code}");
+        assert!(rt;
+            is_not_admitted(twenty, at + 8, 1, HvStatus(0x0003)),
+            "{code} long"
+        );
+        assert!(rt;
+            is_not_admitted(twenty, at + 0x1000, 1, HvStatus(0x0005)),
+            "{code} no page"
+        );
+        assert!(rt;
+            admit(2, rep(code, filling, 0), 0, 1).is_ok(),
+            "{code} whole page"
+        );
+        assert!(rt;
+            is_not_admitted(rep(code, filling + 1, 0), 0, 1, HvStatus(0x0003)),
+            "{code} more"
+        );
+        assert!(rt;
+            is_not_admitted(twenty | 1 << 16, 1, 1, HvStatus(0x0003)),
+            "{code} fast"
+        );
+    }
+}
+
 const OWN_PARTITION: u64 = u64::MAX;
 
 /// What refuses the header of these words of processor 2 of four.
@@ -347,7 +493,9 @@ fn registers_have_their_numbers(rt: HostRuntime) {
     assert!(rt; register_of(0x000D_0003) == Some(CallRegister::VpStatus));
     assert!(rt; register_of(0x000D_0004) == Some(CallRegister::PartitionStatus));
     assert!(rt; register_of(0x000D_0006) == Some(CallRegister::Capabilities));
+    assert!(rt; register_of(0x000D_0007) == Some(CallRegister::PartitionConfig));
     assert!(rt; register_of(0x000D_0005).is_none());
+    assert!(rt; register_of(0x000D_0008).is_none());
 }
 
 /// Elements of a call of one element that get a register, by the caller and the level that it means, with their statuses.
@@ -369,6 +517,51 @@ fn elements_that_get_a_register_are_judged(rt: HostRuntime) {
     }
     let two = get_refusal(Vtl::Zero, Vtl::Zero, 2, 0x000D_0004);
     assert_eq!(rt; two, Some(HvStatus(0x0005)));
+}
+
+/// The number of the partition's configuration.
+const CONFIG: u32 = 0x000D_0007;
+
+/// What refuses to set it to a value, in a call of so many elements, and to get it.
+fn config_refusals(
+    caller: Vtl,
+    target: Vtl,
+    count: u16,
+    value: u64,
+) -> (Option<HvStatus>, Option<HvStatus>) {
+    let setting = Setting::of(u64::from(CONFIG), 0, value, value);
+    let set = set_refusal(caller, target, count, &setting);
+    (set, get_refusal(caller, target, count, CONFIG))
+}
+
+/// Callers with the levels that they mean and how many elements there are, with the status of either call.
+const CONFIGURED: [(Vtl, Vtl, u16, Option<HvStatus>); 7] = [
+    (Vtl::Zero, Vtl::Zero, 1, Some(HvStatus(0x0006))),
+    (Vtl::Zero, Vtl::One, 1, Some(HvStatus(0x0006))),
+    (Vtl::One, Vtl::Zero, 1, Some(HvStatus(0x0005))),
+    (Vtl::One, Vtl::One, 1, None),
+    (Vtl::Zero, Vtl::Zero, 2, Some(HvStatus(0x0005))),
+    (Vtl::One, Vtl::One, 2, Some(HvStatus(0x0005))),
+    (Vtl::One, Vtl::One, 0, Some(HvStatus(0x0005))),
+];
+
+#[test]
+fn the_configuration_is_of_level_1_and_an_only_element(rt: HostRuntime) {
+    for (caller, target, count, status) in CONFIGURED {
+        let refusals = config_refusals(caller, target, count, 1);
+        assert_eq!(rt; refusals, (status, status), "{count}");
+    }
+}
+
+#[test]
+fn the_configuration_takes_any_value_of_an_element(rt: HostRuntime) {
+    for value in [0, 1, 0x1F, 0x7F, 0x80, u64::MAX] {
+        let refusals = config_refusals(Vtl::One, Vtl::One, 1, value);
+        assert_eq!(rt; refusals, (None, None), "{value}");
+    }
+    let padded = Setting::of(u64::from(CONFIG), 1, 0, 0);
+    let refusal = set_refusal(Vtl::One, Vtl::One, 1, &padded);
+    assert_eq!(rt; refusal, Some(HvStatus(0x0005)));
 }
 
 /// Elements that set a register, by the caller and the level that it means, with their statuses.

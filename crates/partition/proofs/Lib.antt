@@ -1,0 +1,5 @@
+mod Asks
+mod Firsts
+mod Opening
+mod Rounds
+mod Sounds

@@ -23,7 +23,7 @@ pub record PartView : Type 0 where
 -- before the first request
 abbrev pub opening_view : Limits → List ℕ → ℕ → PartView
 opening_view limits masks started = record {
-  state = opening_partition limits.vps started;
+  state = opening_partition limits started;
   journal = empty_journal limits masks;
   under = None;
 }

@@ -1,10 +1,10 @@
 -- One turn of a partition.
-use Rattle.std.specs.Prelude.{◌≡◌, ◌⊎◌, true, false, Option, Some, None, List, [], ◌∷◌, length}
+use Rattle.std.specs.Prelude.{◌≡◌, ◌⊎◌, true, Option, Some, None, List, [], ◌∷◌, length}
 use Rattle.vsm_base.specs.declared.places.VpIndex.{VpIndex}
+use Rattle.vsm_core.specs.Entries.{step_of, pace}
 use Rattle.vsm_core.specs.Stand.{Stand, Serves}
 use Rattle.vsm_core.specs.declared.event.Event.{Event}
 use Rattle.vsm_core.specs.declared.event.Event.TheVariants as events
-use Rattle.vsm_core.specs.declared.event.PendingWord.TheVariants as words
 use Rattle.vsm_core.specs.declared.journal.Entry.{Entry}
 use Rattle.vsm_core.specs.declared.journal.Entry.TheVariants as entries
 use Rattle.vsm_core.specs.declared.request.Reply.{Reply}
@@ -12,20 +12,6 @@ use Rattle.protection_map.specs.JournalView.{with_entry}
 use Rattle.partition.specs.PartView.{Doing, PartView}
 use Rattle.partition.specs.declared.turn.PartTurn.{PartTurn}
 use Rattle.partition.specs.declared.turn.PartTurn.TheVariants.{Moved, Busy, Done}
-
--- the step on the shared words with which an entry is added
-abbrev pub step_of : Entry → Option Event
-step_of (entries.Ask page mask) = Some (events.Ask page mask)
-step_of (entries.Turn round by) = Some (events.Turn round)
-step_of (entries.Clear vp) = Some (events.Clear vp false)
-step_of (entries.Start by vp level) = Some (events.Post vp words.Start 1)
-step_of (entries.Enable by) = None
-step_of (entries.Level by vp) = None
-step_of (entries.Config by value) = None
-step_of (entries.Fetch vp) = None
-step_of (entries.Look by) = None
-step_of (entries.Refuse by status) = None
-step_of (entries.Report round) = None
 
 -- the steward made this step, or none and then it stands where it stood
 abbrev pub ServesIf : Stand → Option Event → Stand → Type 0
@@ -73,3 +59,11 @@ pub record IsKept (old new : PartView) : Type 0 where
   pub opening : new.journal.opening ≡ old.journal.opening
   pub room : new.journal.room ≡ old.journal.room
   pub vps : length new.state.vps ≡ length old.state.vps
+  pub pages : new.state.pages ≡ old.state.pages
+
+-- the steward has the partition's limits, and has turned the generation and cleared processors as often as the journal says
+pub record IsPaced (p : PartView) (stand : Stand) : Type 0 where
+  pub vps : stand.limits.vps ≡ length p.state.vps
+  pub pages : stand.limits.pages ≡ length p.journal.opening
+  pub turns : stand.turns ≡ (pace (length p.state.vps) p.journal.entries).turns
+  pub cleared : stand.cleared ≡ (pace (length p.state.vps) p.journal.entries).cleared

@@ -2,17 +2,14 @@
 ghost use Rattle.std.specs.Prelude.{◌≡◌, ◌<◌, None, length, drop};
 ghost use Rattle.vsm_core.specs.Calls.{first_failed};
 ghost use Rattle.vsm_core.specs.Contexts.{is_legal_context};
-ghost use Rattle.vsm_core.specs.Partition.{standing, is_other_partition, low_target, above_low_target, index_of, target_of, padding_of, named, someone_has_one, enable_partition_checks, enable_vp_checks};
+ghost use Rattle.vsm_core.specs.Partition.{standing, low_target, above_low_target, index_of, named, someone_has_one, enable_partition_checks, enable_vp_checks};
+ghost use Rattle.vsm_core.specs.Protection.{modify_checks, page_refusal, config_checks};
+ghost use Rattle.vsm_core.specs.Status.{protects, default_mask};
 
+use hyper_abi::{index_of, is_byte_form, is_other_partition, named, padding_of, target_of};
 use register_file::Context;
-use vsm_base::{HvStatus, VpIndex, Vtl};
+use vsm_base::{HvStatus, Mask, VpIndex, Vtl};
 use vsm_core::{PartitionState, Standing};
-
-/// The number by which a caller names its own partition.
-const OWN_PARTITION: u64 = u64::MAX;
-
-/// The index by which a caller names its own processor.
-const OWN_INDEX: u32 = 0xFFFF_FFFE;
 
 const NOBODY: Standing = Standing {
     one: false,
@@ -30,13 +27,6 @@ pub fn standing(state: &PartitionState, vp: u32) -> Standing
     }
 }
 
-fn is_other_partition(words: &[u64]) -> bool
-    requires { 1 < length words.now }
-    ensures { result ≡ is_other_partition words.now }
-{
-    words[0] != OWN_PARTITION
-}
-
 /// Bits 7:0 of the second word.
 fn low_target(words: &[u64]) -> u64
     requires { 1 < length words.now }
@@ -51,41 +41,6 @@ fn above_low_target(words: &[u64]) -> u64
     ensures { result ≡ above_low_target words.now }
 {
     words[1] / (1 << 8)
-}
-
-/// Bits 31:0 of the second word.
-pub fn index_of(words: &[u64]) -> u32
-    requires { 1 < length words.now }
-    ensures { result ≡ index_of words.now }
-{
-    (words[1] % (1 << 32)) as u32
-}
-
-/// Bits 39:32 of the second word.
-fn target_of(words: &[u64]) -> u64
-    requires { 1 < length words.now }
-    ensures { result ≡ target_of words.now }
-{
-    words[1] / (1 << 32) % (1 << 8)
-}
-
-/// Bits 63:40 of the second word.
-fn padding_of(words: &[u64]) -> u64
-    requires { 1 < length words.now }
-    ensures { result ≡ padding_of words.now }
-{
-    words[1] / (1 << 40)
-}
-
-/// The number of the processor that an index names, where there is such a processor.
-pub fn named(by: VpIndex, index: u32) -> u32
-    ensures { result ≡ named by.0 index }
-{
-    if index == OWN_INDEX {
-        u32::from(by.0)
-    } else {
-        index
-    }
 }
 
 fn someone_has_one(state: &PartitionState) -> bool
@@ -158,6 +113,70 @@ pub fn enable_vp_refusal(
         return Some(HvStatus::INVALID_VP_STATE);
     }
     if !is_legal_context(&context_of(words)) {
+        return Some(HvStatus::INVALID_REGISTER_VALUE);
+    }
+    None
+}
+
+/// Whether a configuration of the partition turns the protection of pages on: bit 0.
+pub fn protects(config: u64) -> bool
+    ensures { result ≡ protects config }
+{
+    config % 2 == 1
+}
+
+/// The mask that a configuration of the partition gives to pages which were given none: bits 4:1.
+pub fn default_mask(config: u64) -> u32
+    ensures { result ≡ default_mask config }
+{
+    (config / 2 % (1 << 4)) as u32
+}
+
+/// Why the call that asks for masks is refused for its header, if it is. Its map flags, which are to be a mask, stand where
+/// other calls have an index.
+pub fn modify_refusal(state: &PartitionState, level: Vtl, header: &[u64; 2]) -> Option<HvStatus>
+    ensures { result ≡ first_failed (modify_checks state.now level header.now) }
+{
+    if is_other_partition(header) {
+        return Some(HvStatus::INVALID_PARTITION_ID);
+    }
+    if level == Vtl::Zero {
+        return Some(HvStatus::ACCESS_DENIED);
+    }
+    if !is_byte_form(header) {
+        return Some(HvStatus::INVALID_PARAMETER);
+    }
+    if !protects(state.config) {
+        return Some(HvStatus::INVALID_VTL_STATE);
+    }
+    if Mask::of(index_of(header)).is_none() {
+        return Some(HvStatus::INVALID_PARAMETER);
+    }
+    None
+}
+
+/// Why an element of that call is refused, if it is, where there are so many pages.
+pub fn page_refusal(pages: u32, page: u64) -> Option<HvStatus>
+    ensures { result ≡ page_refusal pages page }
+{
+    (page >= u64::from(pages)).then_some(HvStatus::INVALID_PARAMETER)
+}
+
+/// Why a write of the partition's configuration is refused, if it is, where the configuration is this.
+pub fn config_refusal(config: u64, value: u128) -> Option<HvStatus>
+    ensures { result ≡ first_failed (config_checks config value) }
+{
+    if value >= 1 << 7 {
+        return Some(HvStatus::INVALID_REGISTER_VALUE);
+    }
+    let value = value as u64;
+    if Mask::of(default_mask(value)).is_none() {
+        return Some(HvStatus::INVALID_REGISTER_VALUE);
+    }
+    if protects(config) && !protects(value) {
+        return Some(HvStatus::INVALID_REGISTER_VALUE);
+    }
+    if protects(config) && default_mask(value) != default_mask(config) {
         return Some(HvStatus::INVALID_REGISTER_VALUE);
     }
     None

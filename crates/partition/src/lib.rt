@@ -1,6 +1,7 @@
 //! The partition, which serves requests one at a time and adds one entry to its journal a turn.
 #![tactic(auto)]
 
+mod block;
 mod checks;
 mod plans;
 mod serving;

@@ -4,9 +4,11 @@ ghost use Rattle.std.specs.Prelude.{◌≡◌, ◌≢◌, ◌+◌, ◌<◌, ◌�
 ghost use Rattle.vsm_core.specs.Partition.{opening_partition};
 ghost use Rattle.vsm_core.specs.Served.{block};
 ghost use Rattle.partition.specs.PartView.{begun, opening_view};
-ghost use Rattle.partition.specs.Turns.{Turns, IsKept};
+ghost use Rattle.vsm_core.specs.Protection.{IsSlice};
+ghost use Rattle.partition.specs.Turns.{Turns, IsKept, IsPaced};
 
-use crate::plans::{Under, plan};
+use crate::block::{Next, Under, make_next};
+use crate::plans::plan;
 use crate::turn::PartTurn;
 use fabric::Steward;
 use protection_map::Journal;
@@ -30,26 +32,33 @@ impl Model for Partition {
 
     ghost Value = { PartView };
 
-    ghost view = { λ p. record { state = p.state; journal = p.journal; under = doing p.under } };
+    ghost view = { λ p. record { state = p.state; journal = p.journal; under = doing p.state.rounds p.under } };
 
     ghost invariant = { λ p. IsSound p.state p.journal p.under };
 }
 
 /// What the partition knows before the first request.
-fn opening_partition(alloc: Global, vps: u8, started: u8) -> Result<PartitionState, AllocError>
-    ensures { IfOk result (λ state. state ≡ opening_partition vps started) }
+fn opening_partition(
+    alloc: Global,
+    limits: &Limits,
+    started: u8,
+) -> Result<PartitionState, AllocError>
+    ensures { IfOk result (λ state. state ≡ opening_partition limits.now started) }
 {
-    let mut standings = Items::new(alloc);
-    for vp in 0..vps {
-        standings.push(Standing {
+    let mut vps = Items::new(alloc);
+    for vp in 0..limits.vps {
+        vps.push(Standing {
             one: false,
             started: vp < started,
             waiting: None,
         })?;
     }
     Ok(PartitionState {
+        pages: limits.pages,
         enabled: false,
-        vps: standings,
+        config: 0,
+        rounds: 0,
+        vps,
     })
 }
 
@@ -74,7 +83,7 @@ impl Partition {
         ensures { IfOk result (λ partition. partition ≡ opening_view limits.now masks.now started) }
     {
         Ok(Partition {
-            state: opening_partition(alloc, limits.vps, started)?,
+            state: opening_partition(alloc, limits, started)?,
             journal: Journal::new(alloc, limits, masks)?,
             under: None,
         })
@@ -107,7 +116,9 @@ impl Partition {
     }
 
     /// Begins a request. What it comes to is decided here, by the state as it is now, and `turn` adds its entries. Needs
-    /// that no request is under way, that the caller is below the number of processors, and room for the entries.
+    /// that no request is under way, that the caller is below the number of processors, room for the entries, and of a
+    /// call that asks for masks that its slice has at most eight pages, which are some of the call's elements. A call has
+    /// fewer than 4,096 elements.
     ///
     /// `PartCall::EnablePartition` enables level 1 for the partition (TLFS, HvCallEnablePartitionVtl). Its status is
     /// the first of these whose cause is there, and else `SUCCESS`:
@@ -128,17 +139,48 @@ impl Partition {
     ///
     /// The caller gets its own context by the reply; the context of another processor waits for that one's start.
     ///
-    /// `PartCall::ReadStatus` reads VsmPartitionStatus: its status is `SUCCESS`, one element is done, and the value is that of
-    /// the register (TLFS, HV_REGISTER_VSM_PARTITION_STATUS). Nothing changes.
+    /// `PartCall::Modify` is a slice of a call that asks for one mask for pages, which binds level 0 (TLFS,
+    /// HvCallModifyVtlProtectionMask). It is refused by the first of these whose cause is there:
+    /// 1. `INVALID_PARTITION_ID`: the first word isn't 2^64 - 1.
+    /// 2. `ACCESS_DENIED`: level 0 calls.
+    /// 3. `INVALID_PARAMETER`: bit 4 of the byte in bits 39:32 of the second word is set and its bits 3:0 aren't 0 or 1, or
+    ///    a bit is set above bit 4 of the byte or behind the byte. Whether it names a level, and which, doesn't matter.
+    /// 4. `INVALID_VTL_STATE`: the protection of pages isn't on.
+    /// 5. `INVALID_PARAMETER`: the map flags, bits 31:0 of the second word, are none of the masks 0, 1, 3, 13 and 15.
+    ///
+    /// Else each of its pages is looked at in turn, and refused with `INVALID_PARAMETER` where there is no such page. Where
+    /// the first is refused the slice is refused with that status. Where another is, the pages before it get the mask by a
+    /// round, and the status is that one's; where none is, all get it by a round, and the status is `SUCCESS`. Pages behind
+    /// one that is refused aren't looked at. The reply's `done` is the index, among all elements of the call, of the first
+    /// that isn't done: the slice's start, and one more for each page that gets the mask.
+    ///
+    /// `PartCall::Flush` flushes translations (TLFS, HvCallFlushVirtualAddressSpace and HvCallFlushVirtualAddressList): a
+    /// round with no asks. Its status is `SUCCESS`, and all elements that it names are done.
+    ///
+    /// `PartCall::ReadStatus` reads VsmPartitionStatus and `PartCall::ReadConfig` reads VsmPartitionConfig: the status is
+    /// `SUCCESS`, one element is done, and the value is that of the register (TLFS, HV_REGISTER_VSM_PARTITION_STATUS and
+    /// HV_REGISTER_VSM_PARTITION_CONFIG). Nothing changes.
+    ///
+    /// `PartCall::WriteConfig` writes VsmPartitionConfig (TLFS, HV_REGISTER_VSM_PARTITION_CONFIG). It is refused with
+    /// `INVALID_REGISTER_VALUE` where one of these is so, and then no element is done:
+    /// 1. A bit above bit 6 is set.
+    /// 2. The mask of pages that were given none, bits 4:1, is none of 0, 1, 3, 13 and 15.
+    /// 3. Protection is on, and bit 0 would turn it off.
+    /// 4. Protection is on, and the mask of pages that were given none would change.
+    ///
+    /// Else the status is `SUCCESS`, and one element is done. Where bit 0 becomes set a round asks for that mask for every
+    /// page. Bit 5 (ZeroMemoryOnReset) and bit 6 (DenyLowerVtlStartup) may be set and cleared at any time.
     ///
     /// A call that isn't built yet is refused as one that there isn't, with `INVALID_HYPERCALL_CODE`. A refused request
-    /// adds the entry of its refusal and changes nothing else. That, and the order of the causes, are this project's own.
+    /// adds the entry of its refusal alone and changes nothing else. That, the masks, and the order of the causes, are this
+    /// project's own.
     pub fn begin(&mut self, request: Request)
         requires free { self.old.under ≡ None }
         requires by { request.by.0 < length self.old.state.vps }
+        requires slice { IsSlice request.call }
         requires room { length self.old.journal.entries + length (block self.old.state request) ≤ self.old.journal.room }
         ensures view { self.new ≡ begun self.old request }
-        ensures kept { length self.new.state.vps ≡ length self.old.state.vps }
+        ensures kept { IsKept self.old self.new }
     {
         let under = plan(&mut self.state, &request);
         self.under = Some(under);
@@ -146,18 +188,33 @@ impl Partition {
 
     /// Adds the next entry of the request under way to the journal, with the step on the shared words that it takes,
     /// if it takes one: an ask of a page's mask, a turn, a clear of a processor, or the post of a start. Where the
-    /// entry clears a processor that is found busy, nothing is added. Needs that a request is under way. The order of
-    /// the entries is this project's own. No request that is built today takes a step.
+    /// entry clears a processor that is found busy, nothing is added. The entries of a round are its asks, its turn, the
+    /// clear of each processor in the order of their numbers, and its report, with which the request is done. Needs that a
+    /// request is under way, that the steward has the partition's processors and pages, and that its turns and cleared
+    /// processors are those of the journal. The order of the entries is this project's own.
     pub fn turn<S: Steward>(&mut self, steward: &mut S) -> PartTurn
         requires going { self.old.under ≢ None }
+        requires paced { IsPaced self.old (S.stand steward.old) }
         ensures turn { Turns self.old (S.stand steward.old) self.new (S.stand steward.new) result }
+        ensures paced { IsPaced self.new (S.stand steward.new) }
         ensures kept { IsKept self.old self.new }
     {
-        let Some(under) = self.under else {
+        let Some(under) = &mut self.under else {
             unreachable!()
         };
-        self.journal.add(under.entry);
-        self.under = None;
-        PartTurn::Done(under.reply)
+        let next = make_next(under, steward);
+        let reply = under.reply;
+        match next {
+            Next::Busy(vp) => PartTurn::Busy(vp),
+            Next::Entry(entry) => {
+                self.journal.add(entry);
+                PartTurn::Moved
+            }
+            Next::Last(entry) => {
+                self.journal.add(entry);
+                self.under = None;
+                PartTurn::Done(reply)
+            }
+        }
     }
 }

@@ -1,12 +1,18 @@
-ghost use Rattle.std.specs.Prelude.{◌≡◌, length};
+// Requests to a partition of three processors, of which the first two are started, and four pages.
+ghost use Rattle.std.specs.Prelude.{◌≡◌, ◌≢◌, IfOk, None, get_or, length};
+ghost use Rattle.fabric.specs.Plain.{first_stand};
+ghost use Rattle.vsm_core.specs.Protection.{IsSlice};
+ghost use Rattle.partition.specs.TestView.{IsOpen, phases_of};
+ghost use Rattle.partition.specs.Turns.{IsPaced};
 
 use super::*;
-use fabric::{PlainFabric, Steward};
+use arrayvec::ArrayVec;
+use fabric::{PlainFabric, Port, Steward};
 use protection_map::Journal;
 use std::alloc::Global;
 use std::test::Fail;
-use vsm_base::{HvStatus, Limits, Mask, Memory, VpIndex, Vtl};
-use vsm_core::{Entry, PartCall, Reply, Request};
+use vsm_base::{HvStatus, Limits, Mask, Memory, Page, VpIndex, Vtl};
+use vsm_core::{Entry, PartCall, Phase, Reply, Request, requests_add_few_entries};
 
 /// The number of a caller's own partition.
 const OWN: u64 = u64::MAX;
@@ -20,7 +26,13 @@ const TARGET: u64 = 1 << 32;
 /// The lowest bit of Cr3 that must be zero.
 const BAD_CR3: u64 = 1 << 52;
 
-/// What is asked, in a partition of three processors of which the first two are started.
+const FIRST: VpIndex = VpIndex(0);
+
+const SECOND: VpIndex = VpIndex(1);
+
+const THIRD: VpIndex = VpIndex(2);
+
+/// What is asked.
 #[derive(Clone, Copy)]
 enum Asked {
     /// Processor 0 asks for level 1 for the partition, by these two words.
@@ -28,10 +40,18 @@ enum Asked {
     /// A processor at a level asks for level 1 on a processor, by these two words and a context that is all zero but
     /// for Cr3.
     Processor(u8, Vtl, u64, u64, u64),
+    /// Processor 0 at a level asks for a mask, by this header, for these pages, elements 8 to 10 of 20.
+    Masks(Vtl, u64, u64, [u64; 3]),
+    /// Processor 1 asks for a flush that names seven elements.
+    Flush,
     /// Processor 1 reads the partition's status.
     Status,
-    /// Processor 0 asks for a flush.
-    Flush,
+    /// Processor 1 reads the partition's configuration.
+    Config,
+    /// Processor 0 writes it.
+    Write(u128),
+    /// Processor 0 fetches contexts.
+    Fetch,
 }
 
 const ENABLE: Asked = Asked::Partition(OWN, 1);
@@ -42,6 +62,9 @@ const LEVEL: Asked = Asked::Processor(0, Vtl::Zero, OWN, SELF, 0x5000);
 /// Level 1 of processor 0 asks for level 1 on processor 2, which isn't started.
 const OTHER: Asked = Asked::Processor(0, Vtl::One, OWN, TARGET | 2, 0x5000);
 
+/// Protection is turned on, and each page is to have mask 13.
+const PROTECT: Asked = Asked::Write(0x1B);
+
 /// The words of a context that is all zero but for Cr3.
 fn context(cr3: u64) -> [u64; 28] {
     let mut words = [0; 28];
@@ -49,98 +72,198 @@ fn context(cr3: u64) -> [u64; 28] {
     words
 }
 
-fn request(asked: &Asked) -> Request {
-    match *asked {
-        Asked::Partition(first, second) => Request {
-            by: VpIndex(0),
-            level: Vtl::Zero,
-            call: PartCall::EnablePartition([first, second]),
-        },
-        Asked::Processor(by, level, first, second, cr3) => {
-            let mut words = [0; 30];
-            words[0] = first;
-            words[1] = second;
-            words[27] = cr3;
-            Request {
-                by: VpIndex(by),
-                level,
-                call: PartCall::EnableVp(words),
-            }
-        }
-        Asked::Status => Request {
-            by: VpIndex(1),
-            level: Vtl::Zero,
-            call: PartCall::ReadStatus,
-        },
-        Asked::Flush => Request {
-            by: VpIndex(0),
-            level: Vtl::Zero,
-            call: PartCall::Flush { total: 1 },
-        },
+fn call_for_processor(first: u64, second: u64, cr3: u64) -> PartCall
+    ensures { IsSlice result }
+{
+    let mut words = [0; 30];
+    words[0] = first;
+    words[1] = second;
+    words[27] = cr3;
+    PartCall::EnableVp(words)
+}
+
+fn call_for_masks(first: u64, second: u64, elements: &[u64; 3]) -> PartCall
+    ensures { IsSlice result }
+{
+    let mut pages = ArrayVec::new();
+    pages.push(elements[0]);
+    pages.push(elements[1]);
+    pages.push(elements[2]);
+    PartCall::Modify {
+        header: [first, second],
+        pages,
+        start: 8,
+        total: 20,
     }
 }
 
-/// The reply, where the request may be begun and is served in one turn.
-fn serve<S: Steward>(partition: &mut Partition, request: Request, steward: &mut S) -> Option<Reply>
-    requires vps { length partition.old.state.vps ≡ 3 }
-    requires room { partition.old.journal.room ≡ 43 }
-    ensures vps { length partition.new.state.vps ≡ 3 }
-    ensures room { partition.new.journal.room ≡ 43 }
+fn request(asked: &Asked) -> Request
+    ensures { IsSlice result.call }
 {
-    let has_room = partition.journal().entries().len() < 43;
+    let (by, level, call) = match *asked {
+        Asked::Partition(first, second) => {
+            (0, Vtl::Zero, PartCall::EnablePartition([first, second]))
+        }
+        Asked::Processor(by, level, first, second, cr3) => {
+            (by, level, call_for_processor(first, second, cr3))
+        }
+        Asked::Masks(level, first, second, pages) => {
+            (0, level, call_for_masks(first, second, &pages))
+        }
+        Asked::Flush => (1, Vtl::Zero, PartCall::Flush { total: 7 }),
+        Asked::Status => (1, Vtl::Zero, PartCall::ReadStatus),
+        Asked::Config => (1, Vtl::Zero, PartCall::ReadConfig),
+        Asked::Write(value) => (0, Vtl::One, PartCall::WriteConfig(value)),
+        Asked::Fetch => (0, Vtl::Zero, PartCall::Fetch),
+    };
+    let by = VpIndex(by);
+    Request { by, level, call }
+}
+
+/// The shared words before the first step.
+fn opened(alloc: Global) -> Result<PlainFabric, Memory>
+    ensures vps { IfOk result (λ f. f.limits.vps ≡ 3) }
+    ensures pages { IfOk result (λ f. f.limits.pages ≡ 4) }
+    ensures second { IfOk result (λ f. get_or f.fabric.phases 1 Phase.Idle ≡ Phase.Idle) }
+    ensures turns { IfOk result (λ f. f.fabric.turns ≡ 0) }
+    ensures cleared { IfOk result (λ f. f.fabric.cleared ≡ 3) }
+{
+    let limits = Limits {
+        vps: 3,
+        pages: 4,
+        budget: 8,
+    };
+    let words = vec![in alloc; 0; 2048]?;
+    let fabric = PlainFabric::new(alloc, &limits, &[Mask::all(); 4], &words)?;
+    Ok(fabric)
+}
+
+/// The partition before the first request.
+fn partition(alloc: Global) -> Result<Partition, Memory>
+    ensures open { IfOk result (λ p. IsOpen p) }
+    ensures entries { IfOk result (λ p. length p.journal.entries ≡ 0) }
+{
+    let limits = Limits {
+        vps: 3,
+        pages: 4,
+        budget: 8,
+    };
+    let partition = Partition::new(alloc, &limits, &[Mask::all(); 4], 2)?;
+    Ok(partition)
+}
+
+/// The last of up to twenty turns of the request under way.
+fn finish<S: Steward>(partition: &mut Partition, steward: &mut S) -> PartTurn
+    requires going { partition.old.under ≢ None }
+    requires open { IsOpen partition.old }
+    requires paced { IsPaced partition.old (S.stand steward.old) }
+    ensures open { IsOpen partition.new }
+    ensures paced { IsPaced partition.new (S.stand steward.new) }
+    ensures name { (S.stand steward.new).name ≡ (S.stand steward.old).name }
+    ensures phases { phases_of (S.stand steward.new) ≡ phases_of (S.stand steward.old) }
+{
+    for _turn in 0..20 {
+        let turn = partition.turn(steward);
+        match &turn {
+            PartTurn::Moved => {}
+            _ => return turn,
+        }
+    }
+    PartTurn::Moved
+}
+
+/// The last turn of a request, where it may be begun.
+fn serve<S: Steward>(
+    partition: &mut Partition,
+    request: Request,
+    steward: &mut S,
+) -> Option<PartTurn>
+    requires open { IsOpen partition.old }
+    requires paced { IsPaced partition.old (S.stand steward.old) }
+    requires slice { IsSlice request.call }
+    ensures open { IsOpen partition.new }
+    ensures paced { IsPaced partition.new (S.stand steward.new) }
+    ensures name { (S.stand steward.new).name ≡ (S.stand steward.old).name }
+    ensures phases { phases_of (S.stand steward.new) ≡ phases_of (S.stand steward.old) }
+{
+    let has_room = partition.journal().entries().len() < 320;
     if request.by.0 >= 3 || !partition.is_free() || !has_room {
         return None;
     }
+    requests_add_few_entries();
     partition.begin(request);
-    match partition.turn(steward) {
-        PartTurn::Done(reply) => Some(reply),
-        _ => None,
-    }
+    Some(finish(partition, steward))
 }
 
-/// The journal after these requests, and the last reply.
-fn served(alloc: Global, all: &[Asked]) -> Result<(Journal, Option<Reply>), Memory> {
-    let limits = Limits {
-        vps: 3,
-        pages: 1,
-        budget: 1,
-    };
-    let masks = [Mask::all()];
-    let mut fabric = PlainFabric::new(alloc, &limits, &masks, &[0; 512])?;
+/// The journal after these requests and one more, and the reply to that one.
+fn served(
+    alloc: Global,
+    before: &[Asked],
+    asked: Asked,
+) -> Result<(Journal, Option<Reply>), Memory> {
+    let mut fabric = opened(alloc)?;
     let mut steward = fabric.steward();
-    let mut partition = Partition::new(alloc, &limits, &masks, 2)?;
-    let mut last = None;
-    for asked in all {
-        last = serve(&mut partition, request(asked), &mut steward);
+    let mut partition = partition(alloc)?;
+    for asked in before {
+        serve(&mut partition, request(asked), &mut steward);
     }
-    Ok((partition.into_journal(), last))
+    let reply = match serve(&mut partition, request(&asked), &mut steward) {
+        Some(PartTurn::Done(reply)) => Some(reply),
+        _ => None,
+    };
+    Ok((partition.into_journal(), reply))
 }
 
-fn last_reply(alloc: Global, all: &[Asked]) -> Result<Option<Reply>, Memory> {
-    let (_, last) = served(alloc, all)?;
-    Ok(last)
+/// The reply to a request after these.
+fn reply_to(alloc: Global, before: &[Asked], asked: Asked) -> Result<Option<Reply>, Memory> {
+    let (_, reply) = served(alloc, before, asked)?;
+    Ok(reply)
 }
 
-/// Whether these requests leave these entries.
-fn leaves(alloc: Global, all: &[Asked], entries: &[Entry]) -> Result<bool, Memory> {
-    let (journal, _) = served(alloc, all)?;
+/// Whether these requests and one more leave these entries.
+fn leaves(
+    alloc: Global,
+    before: &[Asked],
+    asked: Asked,
+    entries: &[Entry],
+) -> Result<bool, Memory> {
+    let (journal, _) = served(alloc, before, asked)?;
     Ok(journal.into_entries().as_slice() == entries)
 }
 
-/// Whether a request has this status once `ENABLE` and `LEVEL` were served, or only the first of them, or neither.
+/// Whether a request has this status after the first so many of `ENABLE`, `LEVEL` and `PROTECT`.
 fn has_status(alloc: Global, before: usize, asked: Asked, status: u16) -> Result<bool, Memory> {
-    let all = [ENABLE, LEVEL, asked];
-    let last = match before {
-        0 => last_reply(alloc, &all[2..])?,
-        1 => last_reply(alloc, &[ENABLE, asked])?,
-        _ => last_reply(alloc, &all)?,
-    };
-    Ok(last.map(|reply| reply.status) == Some(HvStatus(status)))
+    let all = [ENABLE, LEVEL, PROTECT];
+    let reply = reply_to(alloc, &all[..before.min(3)], asked)?;
+    Ok(reply.map(|reply| reply.status) == Some(HvStatus(status)))
+}
+
+/// A reply without a context.
+fn plain(status: u16, done: u16, value: u64) -> Option<Reply> {
+    Some(Reply {
+        status: HvStatus(status),
+        done,
+        value,
+        context: None,
+    })
 }
 
 /// What processor 0 asks at level 0.
 fn ask(first: u64, second: u64, cr3: u64) -> Asked {
     Asked::Processor(0, Vtl::Zero, first, second, cr3)
+}
+
+/// Level 1 of processor 0 asks by this second word for its mask for pages 0 to 2.
+fn masks(second: u64) -> Asked {
+    Asked::Masks(Vtl::One, OWN, second, [0, 1, 2])
+}
+
+/// The ask of a page's mask.
+fn ask_of(page: u32, bits: u32) -> Entry {
+    Entry::Ask {
+        page: Page(page),
+        mask: Mask::of(bits).unwrap_or(Mask::all()),
+    }
 }
 
 #[test]
@@ -204,39 +327,32 @@ fn the_caller_gets_its_context_by_the_reply(rt: HostRuntime) -> Result<(), Fail>
         context: Some((Vtl::One, context(0x5000), None)),
     };
     let by_index = Asked::Processor(1, Vtl::Zero, OWN, TARGET | 1, 0x5000);
-    assert!(rt; last_reply(rt.alloc(), &[ENABLE, LEVEL])? == Some(reply));
-    assert!(rt; last_reply(rt.alloc(), &[ENABLE, by_index])? == Some(reply));
+    assert!(rt; reply_to(rt.alloc(), &[ENABLE], LEVEL)? == Some(reply));
+    assert!(rt; reply_to(rt.alloc(), &[ENABLE], by_index)? == Some(reply));
     Ok(())
 }
 
 #[test]
 fn the_context_of_a_processor_to_be_started_waits(rt: HostRuntime) -> Result<(), Fail> {
-    let reply = Reply {
-        status: HvStatus(0),
-        done: 0,
-        value: 0,
-        context: None,
-    };
-    assert!(rt; last_reply(rt.alloc(), &[ENABLE, LEVEL, OTHER])? == Some(reply));
-    assert!(rt; has_status(rt.alloc(), 2, OTHER, 0)?);
+    assert!(rt; reply_to(rt.alloc(), &[ENABLE, LEVEL], OTHER)? == plain(0, 0, 0));
     Ok(())
 }
 
 #[test]
-fn each_request_adds_one_entry(rt: HostRuntime) -> Result<(), Fail> {
-    let by = VpIndex(0);
+fn each_call_for_level_1_adds_one_entry(rt: HostRuntime) -> Result<(), Fail> {
+    let by = FIRST;
     let entries = [
         Entry::Enable { by },
         Entry::Level { by, vp: by },
-        Entry::Level { by, vp: VpIndex(2) },
+        Entry::Level { by, vp: THIRD },
     ];
-    assert!(rt; leaves(rt.alloc(), &[ENABLE, LEVEL, OTHER], &entries)?);
+    assert!(rt; leaves(rt.alloc(), &[ENABLE, LEVEL], OTHER, &entries)?);
     Ok(())
 }
 
 #[test]
 fn a_refused_request_changes_nothing_but_the_journal(rt: HostRuntime) -> Result<(), Fail> {
-    let by = VpIndex(0);
+    let by = FIRST;
     let refused = Asked::Partition(OWN, 2);
     let entries = [
         Entry::Refuse {
@@ -249,31 +365,235 @@ fn a_refused_request_changes_nothing_but_the_journal(rt: HostRuntime) -> Result<
             status: HvStatus(0x0086),
         },
     ];
-    assert!(rt; leaves(rt.alloc(), &[refused, ENABLE, ENABLE], &entries)?);
+    assert!(rt; leaves(rt.alloc(), &[refused, ENABLE], ENABLE, &entries)?);
     Ok(())
 }
 
 #[test]
 fn a_call_that_is_not_built_is_refused(rt: HostRuntime) -> Result<(), Fail> {
-    assert!(rt; has_status(rt.alloc(), 1, Asked::Flush, 0x0002)?);
+    assert!(rt; has_status(rt.alloc(), 1, Asked::Fetch, 0x0002)?);
     Ok(())
 }
 
 #[test]
-fn the_status_tells_whether_level_1_is_enabled(rt: HostRuntime) -> Result<(), Fail> {
-    for (before, value) in [(0, 0x10001), (1, 0x10003)] {
-        let reply = Reply {
-            status: HvStatus(0),
-            done: 1,
-            value,
-            context: None,
-        };
-        let all = [ENABLE, Asked::Status];
-        let last = last_reply(rt.alloc(), &all[1 - before..])?;
-        assert!(rt; last == Some(reply));
+fn registers_of_the_partition_tell_what_was_set(rt: HostRuntime) -> Result<(), Fail> {
+    let by = SECOND;
+    assert!(rt; reply_to(rt.alloc(), &[], Asked::Status)? == plain(0, 1, 0x10001));
+    assert!(rt; reply_to(rt.alloc(), &[ENABLE], Asked::Status)? == plain(0, 1, 0x10003));
+    assert!(rt; reply_to(rt.alloc(), &[], Asked::Config)? == plain(0, 1, 0));
+    assert!(rt; reply_to(rt.alloc(), &[PROTECT], Asked::Config)? == plain(0, 1, 0x1B));
+    let entries = [Entry::Look { by }, Entry::Enable { by: FIRST }];
+    assert!(rt; leaves(rt.alloc(), &[Asked::Status], ENABLE, &entries)?);
+    Ok(())
+}
+
+#[test]
+fn each_cause_refuses_a_call_for_masks(rt: HostRuntime) -> Result<(), Fail> {
+    let cases = [
+        (3, Asked::Masks(Vtl::One, 0, 1, [0, 1, 2]), 0x000D),
+        (3, Asked::Masks(Vtl::Zero, OWN, 1, [0, 1, 2]), 0x0006),
+        (3, masks(1 | 0x12 << 32), 0x0005),
+        (3, masks(1 | 0x20 << 32), 0x0005),
+        (3, masks(1 | 1 << 40), 0x0005),
+        (2, masks(1), 0x0051),
+        (3, masks(2), 0x0005),
+        (3, masks(16), 0x0005),
+        (3, Asked::Masks(Vtl::One, OWN, 1, [4, 0, 1]), 0x0005),
+        (3, Asked::Masks(Vtl::One, OWN, 1, [1 << 32, 0, 1]), 0x0005),
+        (3, masks(1 | 0x11 << 32), 0x0000),
+        (3, masks(1 | 0x01 << 32), 0x0000),
+    ];
+    for (before, asked, status) in cases {
+        assert!(rt; has_status(rt.alloc(), before, asked, status)?);
     }
-    let by = VpIndex(1);
-    let entries = [Entry::Look { by }, Entry::Enable { by: VpIndex(0) }];
-    assert!(rt; leaves(rt.alloc(), &[Asked::Status, ENABLE], &entries)?);
+    Ok(())
+}
+
+#[test]
+fn the_first_of_two_causes_refuses_a_call_for_masks(rt: HostRuntime) -> Result<(), Fail> {
+    let cases = [
+        (3, Asked::Masks(Vtl::Zero, 0, 1, [0, 1, 2]), 0x000D),
+        (
+            3,
+            Asked::Masks(Vtl::Zero, OWN, 1 | 1 << 40, [0, 1, 2]),
+            0x0006,
+        ),
+        (2, masks(1 | 1 << 40), 0x0005),
+        (2, masks(2), 0x0051),
+    ];
+    for (before, asked, status) in cases {
+        assert!(rt; has_status(rt.alloc(), before, asked, status)?);
+    }
+    Ok(())
+}
+
+#[test]
+fn a_slice_goes_as_far_as_its_pages_are_there(rt: HostRuntime) -> Result<(), Fail> {
+    let alloc = rt.alloc();
+    let before = [Asked::Write(0x1A), Asked::Write(0x5B)];
+    let middle = Asked::Masks(Vtl::One, OWN, 3, [2, 9, 1]);
+    let first = Asked::Masks(Vtl::One, OWN, 3, [9, 2, 1]);
+    assert!(rt; reply_to(alloc, &before, masks(3))? == plain(0, 11, 0));
+    assert!(rt; reply_to(alloc, &before, middle)? == plain(5, 9, 0));
+    assert!(rt; reply_to(alloc, &before, first)? == plain(5, 8, 0));
+    let (journal, _) = served(alloc, &[PROTECT], middle)?;
+    let by = FIRST;
+    let round = [
+        ask_of(2, 3),
+        Entry::Turn { round: 2, by },
+        Entry::Clear { vp: FIRST },
+        Entry::Clear { vp: SECOND },
+        Entry::Clear { vp: THIRD },
+        Entry::Report { round: 2 },
+    ];
+    assert!(rt; journal.entries().get(10..) == Some(round.as_slice()));
+    let (journal, _) = served(alloc, &[PROTECT], first)?;
+    let refusal = [Entry::Refuse {
+        by,
+        status: HvStatus(0x0005),
+    }];
+    assert!(rt; journal.entries().get(10..) == Some(refusal.as_slice()));
+    Ok(())
+}
+
+#[test]
+fn a_round_follows_the_write_that_turns_protection_on(rt: HostRuntime) -> Result<(), Fail> {
+    let alloc = rt.alloc();
+    let by = FIRST;
+    let entries = [
+        Entry::Config { by, value: 0x1B },
+        ask_of(0, 13),
+        ask_of(1, 13),
+        ask_of(2, 13),
+        ask_of(3, 13),
+        Entry::Turn { round: 1, by },
+        Entry::Clear { vp: FIRST },
+        Entry::Clear { vp: SECOND },
+        Entry::Clear { vp: THIRD },
+        Entry::Report { round: 1 },
+        Entry::Config { by, value: 0x5B },
+    ];
+    assert!(rt; leaves(alloc, &[PROTECT], Asked::Write(0x5B), &entries)?);
+    assert!(rt; leaves(alloc, &[], PROTECT, &entries[..10])?);
+    assert!(rt; reply_to(alloc, &[], PROTECT)? == plain(0, 1, 0));
+    assert!(rt; reply_to(alloc, &[PROTECT], PROTECT)? == plain(0, 1, 0));
+    Ok(())
+}
+
+#[test]
+fn protection_stays_on_with_its_mask(rt: HostRuntime) -> Result<(), Fail> {
+    let refused = plain(0x0050, 0, 0);
+    for value in [0x1A, 0x1F, 0x07, 0x9B, 1 << 64 | 0x1B] {
+        let write = Asked::Write(value);
+        assert!(rt; reply_to(rt.alloc(), &[PROTECT], write)? == refused);
+    }
+    for value in [0x5B, 0x3B, 0x1B] {
+        let write = Asked::Write(value);
+        let before = [PROTECT, Asked::Write(0x7B), write];
+        assert!(rt; reply_to(rt.alloc(), &before, Asked::Config)? == plain(0, 1, value as u64));
+    }
+    Ok(())
+}
+
+#[test]
+fn the_mask_may_change_before_protection_is_on(rt: HostRuntime) -> Result<(), Fail> {
+    let before = [Asked::Write(0x06)];
+    assert!(rt; reply_to(rt.alloc(), &before, Asked::Write(0x1A))? == plain(0, 1, 0));
+    assert!(rt; reply_to(rt.alloc(), &before, Asked::Write(0x04))? == plain(0x0050, 0, 0));
+    assert!(rt; reply_to(rt.alloc(), &before, Asked::Write(0x86))? == plain(0x0050, 0, 0));
+    Ok(())
+}
+
+#[test]
+fn a_flush_is_a_round_that_asks_nothing(rt: HostRuntime) -> Result<(), Fail> {
+    let entries = [
+        Entry::Turn {
+            round: 1,
+            by: SECOND,
+        },
+        Entry::Clear { vp: FIRST },
+        Entry::Clear { vp: SECOND },
+        Entry::Clear { vp: THIRD },
+        Entry::Report { round: 1 },
+    ];
+    assert!(rt; leaves(rt.alloc(), &[], Asked::Flush, &entries)?);
+    assert!(rt; reply_to(rt.alloc(), &[], Asked::Flush)? == plain(0, 7, 0));
+    Ok(())
+}
+
+/// The same as `serve`, and the fabric is known again when its steward is gone.
+fn serve_over(
+    partition: &mut Partition,
+    request: Request,
+    fabric: &mut PlainFabric,
+) -> Option<PartTurn>
+    requires open { IsOpen partition.old }
+    requires paced { IsPaced partition.old (first_stand 0 fabric.old) }
+    requires slice { IsSlice request.call }
+    ensures open { IsOpen partition.new }
+    ensures paced { IsPaced partition.new (first_stand 0 fabric.new) }
+    ensures phases { fabric.new.fabric.phases ≡ fabric.old.fabric.phases }
+{
+    let mut steward = fabric.steward();
+    serve(partition, request, &mut steward)
+}
+
+/// The same as `finish`.
+fn finish_over(partition: &mut Partition, fabric: &mut PlainFabric) -> PartTurn
+    requires going { partition.old.under ≢ None }
+    requires open { IsOpen partition.old }
+    requires paced { IsPaced partition.old (first_stand 0 fabric.old) }
+    ensures open { IsOpen partition.new }
+    ensures paced { IsPaced partition.new (first_stand 0 fabric.new) }
+    ensures phases { fabric.new.fabric.phases ≡ fabric.old.fabric.phases }
+{
+    let mut steward = fabric.steward();
+    finish(partition, &mut steward)
+}
+
+/// Processor 1 begins an access.
+fn enter(fabric: &mut PlainFabric)
+    requires vps { fabric.old.limits.vps ≡ 3 }
+    requires idle { get_or fabric.old.fabric.phases 1 Phase.Idle ≡ Phase.Idle }
+    ensures limits { fabric.new.limits ≡ fabric.old.limits }
+    ensures turns { fabric.new.fabric.turns ≡ fabric.old.fabric.turns }
+    ensures cleared { fabric.new.fabric.cleared ≡ fabric.old.fabric.cleared }
+    ensures entered { get_or fabric.new.fabric.phases 1 Phase.Idle ≡ Phase.Entered }
+{
+    let mut port = fabric.port(SECOND);
+    port.enter();
+}
+
+/// Processor 1 ends its access.
+fn leave(fabric: &mut PlainFabric)
+    requires vps { fabric.old.limits.vps ≡ 3 }
+    requires entered { get_or fabric.old.fabric.phases 1 Phase.Idle ≡ Phase.Entered }
+    ensures limits { fabric.new.limits ≡ fabric.old.limits }
+    ensures turns { fabric.new.fabric.turns ≡ fabric.old.fabric.turns }
+    ensures cleared { fabric.new.fabric.cleared ≡ fabric.old.fabric.cleared }
+{
+    let mut port = fabric.port(SECOND);
+    port.leave();
+}
+
+#[test]
+fn a_round_waits_for_a_busy_processor(rt: HostRuntime) -> Result<(), Fail> {
+    let alloc = rt.alloc();
+    let mut fabric = opened(alloc)?;
+    let mut partition = partition(alloc)?;
+    enter(&mut fabric);
+    let turn = serve_over(&mut partition, request(&Asked::Flush), &mut fabric);
+    assert!(rt; turn == Some(PartTurn::Busy(SECOND)));
+    assert_eq!(rt; partition.journal().entries().len(), 2);
+    let is_free = partition.is_free();
+    assert!(rt; !is_free);
+    let turn = finish_over(&mut partition, &mut fabric);
+    assert!(rt; turn == PartTurn::Busy(SECOND));
+    let is_free = partition.is_free();
+    assert!(rt; !is_free);
+    leave(&mut fabric);
+    let turn = finish_over(&mut partition, &mut fabric);
+    assert!(rt; Some(turn) == plain(0, 7, 0).map(PartTurn::Done));
+    assert_eq!(rt; partition.journal().entries().len(), 5);
     Ok(())
 }

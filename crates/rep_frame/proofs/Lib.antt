@@ -1,3 +1,4 @@
 pub mod Slicing
 pub mod Settings
 pub mod Numbers
+pub mod Writes

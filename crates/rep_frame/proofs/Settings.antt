@@ -46,12 +46,12 @@ pub record IsSlice (frame : Frame) (words : List ℕ) : Type 0 where
 between : (start past : ℕ) → start ≤ past → words_between 32 start past ≡ 4 * (past - start)
 between start past h = omega arith
 
-slice-length : (frame : Frame) (words : List ℕ) → IsSlice frame words → length (slice_settings frame words) ≡ past_of frame - frame.next
+pub slice-length : (frame : Frame) (words : List ℕ) → IsSlice frame words → length (slice_settings frame words) ≡ past_of frame - frame.next
 slice-length frame words slice =
     let words-are = between frame.next (past_of frame) slice.ordered in
     rw words-are (settings-length (past_of frame - frame.next) words (omega (arith, slice.ordered, slice.few, slice.long)))
 
-slice-at : (frame : Frame) (words : List ℕ) (i : ℕ) (e : Setting) → IsSlice frame words → i < past_of frame - frame.next → get_or (slice_settings frame words) i e ≡ setting_at words i
+pub slice-at : (frame : Frame) (words : List ℕ) (i : ℕ) (e : Setting) → IsSlice frame words → i < past_of frame - frame.next → get_or (slice_settings frame words) i e ≡ setting_at words i
 slice-at frame words i e slice below =
     let words-are = between frame.next (past_of frame) slice.ordered in
     rw words-are (settings-at (past_of frame - frame.next) i words e below (omega (arith, slice.ordered, slice.few, slice.long)))

@@ -1,8 +1,9 @@
 // The slices of a call that gets registers.
 ghost use Rattle.std.specs.Prelude.{◌≡◌, ◌+◌, ◌*◌, ◌-◌, ◌/◌, ◌%◌, ◌^◌, ◌<◌, ◌≤◌, None, Some, take, drop, slice_set, MatchResult, IfOk};
-ghost use Rattle.vsm_core.specs.RegisterCalls.{get_refusal as get_refusal_lem, value_in_call, value_named, register_of as register_of_lem, is_look as is_look_lem};
+ghost use Rattle.vsm_core.specs.RegisterCalls.{get_refusal as get_refusal_lem, value_in_call, value_named, register_of as register_of_lem, look_in as look_in_lem};
 ghost use Rattle.vsm_core.specs.Reps.{acting, refusing};
 ghost use Rattle.rep_frame.specs.Frames.{past_of, advanced};
+ghost use Rattle.rep_frame.specs.Asks.{look_calls};
 ghost use Rattle.rep_frame.specs.Ends.{end_from};
 ghost use Rattle.rep_frame.specs.Slices.{state_with, half_at as half_at_lem, slice_numbers, number_refusals, end_of, slice_got};
 
@@ -39,7 +40,7 @@ fn half_at(words: &[u64; 32], place: u16) -> u32
     }
 }
 
-/// What a register of a level has. The end of a message has no value, and the partition's status is known there alone.
+/// What a register of a level has. The end of a message has no value, and the partition's registers are known there alone.
 fn value_of(bank: &Bank, status: VpStatus, target: Vtl, register: CallRegister) -> u128
     ensures { result ≡ value_in_call (state_with bank.now status.active status.one_enabled) target register }
 {
@@ -48,7 +49,9 @@ fn value_of(bank: &Bank, status: VpStatus, target: Vtl, register: CallRegister) 
         CallRegister::CodePageOffsets => u128::from(OFFSETS.bits()),
         CallRegister::VpStatus => u128::from(status.bits()),
         CallRegister::Capabilities => u128::from(OFFERED.bits()),
-        CallRegister::EndOfMessage | CallRegister::PartitionStatus => 0,
+        CallRegister::EndOfMessage
+        | CallRegister::PartitionStatus
+        | CallRegister::PartitionConfig => 0,
     }
 }
 
@@ -143,12 +146,32 @@ pub fn get_slice(
     (put_out, settle(frame, acted))
 }
 
-/// Whether a call that gets registers has one element alone and that is the partition's status: then the partition is asked,
-/// which knows it alone (TLFS, HvRegisterVsmPartitionStatus). The words begin with those that hold the call's next slice.
-pub fn is_look(frame: &RepFrame, words: &[u64; 32]) -> bool
-    ensures { result ≡ is_look_lem frame.now.count (slice_numbers frame.now words.now) }
+/// A register that the partition alone knows.
+#[derive(Clone, Copy, Debug, PartialEq, Eq)]
+pub enum Look {
+    /// Its status (TLFS, HvRegisterVsmPartitionStatus).
+    Status,
+    /// Its configuration (TLFS, HvRegisterVsmPartitionConfig).
+    Config,
+}
+
+/// The register that a call which gets registers asks of the partition, if it does: the one that the slice's first element
+/// names, where that isn't refused; such a call has no other element. The words begin with those that hold the call's next
+/// slice. Which elements are refused is told at `hyper_abi::get_refusal`.
+pub fn look_in(frame: &RepFrame, caller: Vtl, target: Vtl, words: &[u64; 32]) -> Option<Look>
+    ensures { look_calls result ≡ look_in_lem caller target frame.now.count (slice_numbers frame.now words.now) }
 {
-    let (first, _) = frame.slice();
-    let register = register_of(half_at(words, 0));
-    frame.count() == 1 && first == 0 && matches!(register, Some(CallRegister::PartitionStatus))
+    let (first, past) = frame.slice();
+    if first >= past {
+        return None;
+    }
+    let number = half_at(words, first % 2);
+    if get_refusal(caller, target, frame.count(), number).is_some() {
+        return None;
+    }
+    match register_of(number)? {
+        CallRegister::PartitionStatus => Some(Look::Status),
+        CallRegister::PartitionConfig => Some(Look::Config),
+        _ => None,
+    }
 }

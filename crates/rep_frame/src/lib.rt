@@ -8,8 +8,8 @@ mod setting;
 mod slice_end;
 
 pub use frame::RepFrame;
-pub use getting::{get_slice, is_look};
-pub use setting::set_slice;
+pub use getting::{Look, get_slice, look_in};
+pub use setting::{set_slice, write_in};
 pub use slice_end::SliceEnd;
 
 #[cfg(test)]

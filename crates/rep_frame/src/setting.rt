@@ -1,12 +1,13 @@
 // The slices of a call that sets registers.
 ghost use Rattle.std.specs.Prelude.{◌≡◌, ◌-◌, ◌<◌, ◌≤◌, Bool, None, IfSome};
 ghost use Rattle.vsm_base.specs.declared.places.Vtl.{Vtl};
-ghost use Rattle.vsm_core.specs.RegisterCalls.{set_one, set_refusal as set_refusal_lem};
+ghost use Rattle.vsm_core.specs.RegisterCalls.{set_one, set_refusal as set_refusal_lem, write_in as write_in_lem};
 ghost use Rattle.vsm_core.specs.Reps.{acting, refusing};
 ghost use Rattle.hyper_abi.specs.Told.{setting_from};
 ghost use Rattle.rep_frame.specs.Frames.{past_of, advanced};
+ghost use Rattle.rep_frame.specs.Asks.{write_calls};
 ghost use Rattle.rep_frame.specs.Ends.{end_from};
-ghost use Rattle.rep_frame.specs.Slices.{state_with, setting_at as setting_at_lem, setting_refusals, end_of, slice_set};
+ghost use Rattle.rep_frame.specs.Slices.{state_with, setting_at as setting_at_lem, setting_refusals, slice_settings, end_of, slice_set};
 
 use crate::frame::RepFrame;
 use crate::slice_end::{Acted, SliceEnd, settle};
@@ -93,4 +94,25 @@ pub fn set_slice(
 {
     let acted = set_elements(bank, caller, target, frame, words);
     settle(frame, acted)
+}
+
+/// The value that a call which sets registers gives the partition's configuration, if it does (TLFS,
+/// HvRegisterVsmPartitionConfig): that of the slice's first element, where it names this register and isn't refused; such a
+/// call has no other element. The words begin with those of the call's next slice. Which elements are refused is told at
+/// `hyper_abi::set_refusal`.
+pub fn write_in(frame: &RepFrame, caller: Vtl, target: Vtl, words: &[u64; 32]) -> Option<u128>
+    ensures { write_calls result ≡ write_in_lem caller target frame.now.count (slice_settings frame.now words.now) }
+{
+    let (first, past) = frame.slice();
+    if first >= past {
+        return None;
+    }
+    let setting = setting_at(words, 0);
+    if set_refusal(caller, target, frame.count(), &setting).is_some() {
+        return None;
+    }
+    match register_of(setting.number)? {
+        CallRegister::PartitionConfig => Some(setting.value),
+        _ => None,
+    }
 }

@@ -180,14 +180,82 @@ fn registers_that_are_not_kept_have_their_values(rt: HostRuntime) {
     }
 }
 
+/// The first element of a call that gets registers, by the caller and the level that it means, with what the partition is
+/// asked for where there is no other element.
+const LOOKS: [(Vtl, Vtl, u64, Option<Look>); 8] = [
+    (Vtl::Zero, Vtl::Zero, 0x000D_0004, Some(Look::Status)),
+    (Vtl::One, Vtl::Zero, 0x000D_0004, Some(Look::Status)),
+    (Vtl::One, Vtl::One, 0x000D_0007, Some(Look::Config)),
+    (Vtl::Zero, Vtl::Zero, 0x000D_0007, None),
+    (Vtl::One, Vtl::Zero, 0x000D_0007, None),
+    (Vtl::One, Vtl::One, 0x000D_0003, None),
+    (Vtl::One, Vtl::One, 0x0002_0000, None),
+    (Vtl::One, Vtl::One, NO_NUMBER, None),
+];
+
 #[test]
-fn the_partition_is_asked_for_its_status_alone(rt: HostRuntime) {
-    let mut words = [0; 32];
-    words[0] = 0x000D_0004;
-    assert!(rt; is_look(&RepFrame::new(1, 0), &words));
-    assert!(rt; !is_look(&RepFrame::new(2, 0), &words));
-    words[0] = 0x000D_0003;
-    assert!(rt; !is_look(&RepFrame::new(1, 0), &words));
+fn the_partition_is_asked_for_its_own_registers(rt: HostRuntime) {
+    let one = RepFrame::new(1, 0);
+    let over = RepFrame::new(1, 1);
+    for (caller, target, number, look) in LOOKS {
+        let mut words = [0; 32];
+        words[0] = number;
+        assert_eq!(rt; look_in(&one, caller, target, &words), look, "{number}");
+        assert!(rt;
+            look_in(&over, caller, target, &words).is_none(),
+            "{number}"
+        );
+    }
+}
+
+#[test]
+fn no_register_of_the_partition_is_asked_for_beside_others(rt: HostRuntime) {
+    let two = RepFrame::new(2, 0);
+    for number in [0x000D_0004, 0x000D_0007] {
+        let mut words = [0; 32];
+        words[0] = number;
+        assert!(rt;
+            look_in(&two, Vtl::One, Vtl::One, &words).is_none(),
+            "{number}"
+        );
+    }
+}
+
+const CONFIG: u64 = 0x000D_0007;
+
+/// The first element of a call that sets registers, by the caller, the level that it means and how many elements there
+/// are, with the configuration that the partition is asked to have.
+const WRITES: [(Vtl, Vtl, u16, [u64; 4], Option<u128>); 9] = [
+    (Vtl::One, Vtl::One, 1, [CONFIG, 0, 0x1F, 0], Some(0x1F)),
+    (
+        Vtl::One,
+        Vtl::One,
+        1,
+        [CONFIG, 0, 0x80, 1],
+        Some(0x1_0000_0000_0000_0080),
+    ),
+    (Vtl::One, Vtl::One, 1, [CONFIG, 1, 0x1F, 0], None),
+    (Vtl::One, Vtl::One, 2, [CONFIG, 0, 0x1F, 0], None),
+    (Vtl::One, Vtl::Zero, 1, [CONFIG, 0, 0x1F, 0], None),
+    (Vtl::Zero, Vtl::Zero, 1, [CONFIG, 0, 0x1F, 0], None),
+    (Vtl::One, Vtl::One, 1, [0x000D_0004, 0, 0x1F, 0], None),
+    (Vtl::One, Vtl::One, 1, [0x0002_0000, 0, 0x1F, 0], None),
+    (Vtl::One, Vtl::One, 1, [NO_NUMBER, 0, 0x1F, 0], None),
+];
+
+#[test]
+fn the_partition_is_asked_to_write_its_configuration(rt: HostRuntime) {
+    for (caller, target, count, element, value) in WRITES {
+        let mut words = [0; 32];
+        words[..4].copy_from_slice(&element);
+        let frame = RepFrame::new(count, 0);
+        assert_eq!(rt; write_in(&frame, caller, target, &words), value, "{count}");
+        let over = RepFrame::new(count, count);
+        assert!(rt;
+            write_in(&over, caller, target, &words).is_none(),
+            "{count}"
+        );
+    }
 }
 
 #[test]

@@ -6,8 +6,8 @@ use crate::places::Access;
 use std::marker::Model;
 
 /// A protection mask (TLFS, HvCallModifyVtlProtectionMask): bit value 1 lets a page be read, 2 written, and 4
-/// and 8 executed by the kernel and by the user. Contracts see its bits.
-#[derive(Clone, Copy, Debug, PartialEq, Eq)]
+/// and 8 executed by the kernel and by the user. Contracts see its bits. The default allows no access.
+#[derive(Clone, Copy, Debug, Default, PartialEq, Eq)]
 pub struct Mask {
     bits: u32,
 }

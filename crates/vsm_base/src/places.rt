@@ -30,8 +30,8 @@ impl Vtl {
 pub struct VpIndex(pub u8);
 
 /// The number of a guest physical page of 4,096 bytes, from 0 (TLFS, Guest Physical Address Spaces). A run has
-/// at most 256, so it is below 256 there.
-#[derive(Clone, Copy, Debug, PartialEq, Eq)]
+/// at most 256, so it is below 256 there. The default is page 0.
+#[derive(Clone, Copy, Debug, Default, PartialEq, Eq)]
 pub struct Page(pub u32);
 
 /// A guest virtual address, in bytes (TLFS, Guest Virtual Address Spaces).

@@ -1,5 +1,5 @@
 -- How many steps an attempt has.
-use Rattle.std.proofs.Common.{◌≤◌, ◌+◌, ◌-◌, ◌*◌, ◌/◌, ◌%◌, ◌^◌, ◌==◌, ◌&&◌, ℕ, zero, suc, Bool, true, false, cond, nat_lt, Option, Some, None, List, [], ◌∷◌, ◌++◌, length, take, drop, IfSome, ◌≡◌, refl, ap, ◌∙◌, subst, arith}
+use Rattle.std.proofs.Common.{◌≤◌, ◌+◌, ◌-◌, ◌*◌, ◌/◌, ◌%◌, ◌^◌, ◌==◌, ◌&&◌, ℕ, zero, suc, Bool, true, false, not, cond, nat_lt, Option, Some, None, List, [], ◌∷◌, ◌++◌, length, take, drop, IfSome, ◌≡◌, refl, ap, ◌∙◌, subst, arith}
 use Rattle.std.proofs.lemmas.Bool.Decides.{nat_tests}
 use Rattle.std.proofs.lemmas.List.{length-append, take-append-le, drop-append-le}
 use Rattle.vsm_base.specs.declared.name.Name.{Name}
@@ -23,13 +23,16 @@ use Rattle.vsm_core.specs.declared.note.Note.{Note}
 use Rattle.vsm_core.specs.declared.operation.Op.{Op}
 use Rattle.vsm_core.specs.declared.operation.Op.TheVariants.{Set, Get, Load, Store, Exec, Spin, Hypercall, VtlCall, VtlReturn, Poll}
 use Rattle.vsm_core.specs.declared.operation.Op.TheVariants as ops
+use Rattle.vsm_core.specs.declared.register.CallRegister.{CallRegister}
+use Rattle.vsm_core.specs.declared.register.CallRegister.TheVariants.{Kept, EndOfMessage, CodePageOffsets, VpStatus, PartitionStatus, Capabilities, PartitionConfig}
 use Rattle.vsm_core.specs.declared.request.Heard.{Heard}
+use Rattle.vsm_core.specs.declared.request.PartCall.{PartCall}
 use Rattle.vsm_core.specs.declared.request.Reply.{Reply}
-use Rattle.vsm_core.specs.Tree.{Tree, Ends, Asks, Wants, WordStep, then_, asks_all, reads, after, follow, by_reply, followed, Counts}
-use Rattle.vsm_core.specs.Calls.{Row, row_of, rows, code_in, is_fast}
-use Rattle.vsm_core.specs.Hypercalls.{input_value, input_address, output_address, has_output, fast_words, input_refusal, result_outcome}
-use Rattle.vsm_core.specs.RegisterCalls.{halves, value_words, got_words, is_look, slice_outcome, count_of, start_of, past_of, header_refusal, get_refusals, slice_end, set_by, slice_numbers, slice_output, got_slice}
-use Rattle.vsm_core.specs.Reps.{RepEnd, Refused as ByElement, GoesOn, Complete, slice_past, first_word, words_between, acting}
+use Rattle.vsm_core.specs.Tree.{Tree, Ends, Asks, Wants, WordStep, Leaving, then_, asks_all, reads, after, follow, by_reply, followed, Counts}
+use Rattle.vsm_core.specs.Calls.{Row, row_of, rows, code_in, is_fast, first_failed}
+use Rattle.vsm_core.specs.Hypercalls.{input_value, input_address, output_address, has_output, fast_words, input_refusal, asked_of, replied, result_outcome}
+use Rattle.vsm_core.specs.RegisterCalls.{Setting, settings, halves, value_words, got_words, register_of, is_partitions, names_one, name_checks, get_refusal, read_call, unless_refused, look_in, write_in, all_set, all_emptied, slice_outcome, count_of, start_of, past_of, header_refusal, set_refusals, get_refusals, slice_end, slice_numbers, slice_output, got_slice}
+use Rattle.vsm_core.specs.Reps.{RepEnd, Refused as ByElement, GoesOn, Complete, slice_past, first_word, words_between, acting, replied_end}
 use Rattle.vsm_core.specs.Targets.{target_level}
 use Rattle.vsm_core.specs.State.{State, gone_on, may_name, operand, privilege_of}
 use Rattle.vsm_core.specs.Fills.{Cached, Fill, Translation}
@@ -40,7 +43,8 @@ use Rattle.vsm_core.specs.Controllers.{Controllers, writes, rings, sint0_vector,
 use Rattle.vsm_core.specs.Messages.{message_words, flagged, is_free}
 use Rattle.vsm_core.specs.Outcomes.{Origin, Outcome, Refusal, faulted, plain, outcome_at, loaded, passed, spun, note_of, held_outcome, denied_outcome, hit_outcome, register_note, set_outcome, get_outcome, eom_outcome}
 use Rattle.vsm_core.specs.Registers.{is_legal, get as get_in}
-use Rattle.vsm_core.specs.Attempt.{attempt, by_access, begun, leaves, left_with, in_own_access, told_on, by_slot, posting, tells, refused, most_denied, most_steps, most_steps_of, goal_of, returns, is_wanted, wanted_outcome, unwanted_outcome, polled_on, sending, sends, eom_on, requests, left_for, hit_tells, hits_on, intercepted, is_write_hit, is_read_hit, set_tree, get_tree, by_page_mask, behind_page_mask, puts_out, looks, gets_by, by_input, reads_slice, reads_input, behind_output, by_memory, admitted, by_refusal, hypercall_tree}
+use Rattle.vsm_core.proofs.Checks.{none-fails}
+use Rattle.vsm_core.specs.Attempt.{attempt, by_access, begun, leaves, left_with, in_own_access, told_on, by_slot, posting, tells, refused, most_denied, most_steps, most_steps_of, goal_of, returns, is_wanted, wanted_outcome, unwanted_outcome, polled_on, sending, sends, eom_on, requests, left_for, hit_tells, hits_on, intercepted, is_write_hit, is_read_hit, set_tree, get_tree, by_page_mask, behind_page_mask, puts_out, looked_by, served, gets_or_asks, gets_by, sets_or_asks, sets_by, by_input, reads_slice, reads_input, behind_output, by_memory, admitted, by_refusal, hypercall_tree}
 
 pub Counts-then_ : {A B : Type 0} (most : A → ℕ) (most_then : B → ℕ) (n : ℕ) (t : Tree A) (f : A → Tree B) → Counts most n t → ((m : ℕ) (a : A) → m ≤ most a → Counts most_then m (f a)) → Counts most_then n (then_ t f)
 Counts-then_ most most_then n (Ends a) f h g = g n a h
@@ -264,30 +268,43 @@ get_tree-counts from name =
     (hits_on-counts from (register_note from false name 0) (message_page from.pages from.state)) (get-counts (may_name from.state name) from _ _)
 
 -- the calls that there are
+abbrev pub flush_row : Row
+flush_row = record { code = 0x0002; is_rep = false; may_be_fast = false; header = 24; element = 0; read = 0; output = 0 }
+
+abbrev pub flush_list_row : Row
+flush_list_row = record { code = 0x0003; is_rep = true; may_be_fast = false; header = 24; element = 8; read = 0; output = 0 }
+
+abbrev pub modify_row : Row
+modify_row = record { code = 0x000C; is_rep = true; may_be_fast = false; header = 16; element = 8; read = 8; output = 0 }
+
 abbrev pub partition_row : Row
-partition_row = record { code = 0x000D; is_rep = false; may_be_fast = true; header = 16; element = 0; output = 0 }
+partition_row = record { code = 0x000D; is_rep = false; may_be_fast = true; header = 16; element = 0; read = 0; output = 0 }
 
 abbrev pub level_row : Row
-level_row = record { code = 0x000F; is_rep = false; may_be_fast = false; header = 240; element = 0; output = 0 }
+level_row = record { code = 0x000F; is_rep = false; may_be_fast = false; header = 240; element = 0; read = 0; output = 0 }
 
 abbrev pub get_row : Row
-get_row = record { code = 0x0050; is_rep = true; may_be_fast = false; header = 16; element = 4; output = 16 }
+get_row = record { code = 0x0050; is_rep = true; may_be_fast = false; header = 16; element = 4; read = 4; output = 16 }
 
 abbrev pub set_row : Row
-set_row = record { code = 0x0051; is_rep = true; may_be_fast = false; header = 16; element = 32; output = 0 }
+set_row = record { code = 0x0051; is_rep = true; may_be_fast = false; header = 16; element = 32; read = 32; output = 0 }
 
 one-row : (P : Row → Type 0) (b : Bool) (row : Row) (other : Option Row) → P row → IfSome other P → IfSome (cond b (Some row) other) P
 one-row P true row other h g = h
 one-row P false row other h g = g
 
 -- what holds of each of these holds of the call of any code
-pub each-row : (P : Row → Type 0) (code : ℕ) → P partition_row → P level_row → P get_row → P set_row → IfSome (row_of code) P
+pub each-row : (P : Row → Type 0) (code : ℕ) → P flush_row → P flush_list_row → P modify_row → P partition_row → P level_row → P get_row → P set_row → IfSome (row_of code) P
 unfolding row_of rows
-each-row P code partition level gets sets =
-    let fourth : Option Row = cond (0x0051 == code) (Some set_row) None in
-    let third : Option Row = cond (0x0050 == code) (Some get_row) fourth in
-    let second : Option Row = cond (0x000F == code) (Some level_row) third in
-    one-row P (0x000D == code) partition_row second partition (one-row P (0x000F == code) level_row third level (one-row P (0x0050 == code) get_row fourth gets (one-row P (0x0051 == code) set_row None sets tt)))
+each-row P code flush flush_list modify partition level gets sets =
+    let seventh : Option Row = cond (0x0051 == code) (Some set_row) None in
+    let sixth : Option Row = cond (0x0050 == code) (Some get_row) seventh in
+    let fifth : Option Row = cond (0x000F == code) (Some level_row) sixth in
+    let fourth : Option Row = cond (0x000D == code) (Some partition_row) fifth in
+    let third : Option Row = cond (0x000C == code) (Some modify_row) fourth in
+    let second : Option Row = cond (0x0003 == code) (Some flush_list_row) third in
+    one-row P (0x0002 == code) flush_row second flush (one-row P (0x0003 == code) flush_list_row third flush_list (one-row P (0x000C == code) modify_row fourth modify
+    (one-row P (0x000D == code) partition_row fifth partition (one-row P (0x000F == code) level_row sixth level (one-row P (0x0050 == code) get_row seventh gets (one-row P (0x0051 == code) set_row None sets tt))))))
 
 -- a slice has at most eight elements, and none behind the last of the call
 pub past-few : (start count : ℕ) → slice_past start count ≤ start + 8
@@ -332,11 +349,24 @@ reads-counts most n page index zero found rest h = subst (λ m. Counts most m (r
 reads-counts most n page index (suc count) found rest h =
     λ x. reads-counts most (suc n) page (suc index) count (found ++ x ∷ []) rest (λ words. subst (λ m. Counts most m (rest words)) (omega arith) (h words))
 
-requests-counts : (from : Origin) (code n : ℕ) (words : List ℕ) → n ≤ 38 → Counts most_steps n (requests from code words)
-requests-counts from code n words le = λ reply. le
+-- a slice's end is the result of its call or a part of it
+slice-most : (from : Origin) (state : State) (does : List Cached) (end : RepEnd) → most_steps (slice_outcome from state does end) ≡ 38
+slice-most from state does (ByElement status done) = refl
+slice-most from state does (GoesOn next) = refl
+slice-most from state does (Complete done) = refl
 
-left_for-counts : (from : Origin) (code n : ℕ) (words : List ℕ) → n ≤ 37 → Counts most_steps n (left_for from code words)
-left_for-counts from code n words le = λ x. requests-counts from code (suc n) words (omega arith)
+served-by : (b : Bool) (from : Origin) (end : RepEnd) (reply : Reply) → most_steps (cond b (slice_outcome from from.state [] end) (replied from reply)) ≡ 38
+served-by true from end reply = slice-most from from.state [] end
+served-by false from end reply = refl
+
+served-most : (from : Origin) (code : ℕ) (reply : Reply) → most_steps (served from code reply) ≡ 38
+served-most from code reply = served-by (code == 0x000C) from (replied_end reply.status reply.done (count_of from)) reply
+
+requests-counts : (from : Origin) (code n : ℕ) (header elements : List ℕ) → n ≤ 38 → Counts most_steps n (requests from code header elements)
+requests-counts from code n header elements le = λ reply. let most = served-most from code reply in omega (arith, most, le)
+
+left_for-counts : (from : Origin) (code n : ℕ) (header elements : List ℕ) → n ≤ 37 → Counts most_steps n (left_for from code header elements)
+left_for-counts from code n header elements le = λ x. requests-counts from code (suc n) header elements (omega arith)
 
 by_page_mask-counts : (from : Origin) (kind : Access) (address generation mask n : ℕ) (rest : Tree Outcome) → n ≤ 11 → Counts most_steps n rest → Counts most_steps n (by_page_mask from kind address generation rest mask)
 by_page_mask-counts from kind address generation mask n rest le h =
@@ -355,29 +385,57 @@ puts_out-counts from words o n le =
     let l = writes-length page index words in
     asks_all-counts most_steps n (writes page index words) (left_with o) (λ x. omega (arith, l, le))
 
-looks-counts : (from : Origin) (n : ℕ) → n ≤ 7 → Counts most_steps n (looks from)
-looks-counts from n le = λ x. λ reply. λ a. λ generation.
+looks-counts : (from : Origin) (call : PartCall) (n : ℕ) → n ≤ 7 → Counts most_steps n (Asks Leaving (λ _. Wants (asked_of from call) (looked_by from)))
+looks-counts from call n le = λ x. λ reply. λ a. λ generation.
     let o : Outcome = result_outcome from from.state reply.status reply.done in
     behind_page_mask-counts from.state.active from Write (output_address from.state) generation (suc (suc (suc n))) (puts_out from (value_words reply.value) o) (omega arith)
     (λ m few. puts_out-counts from (value_words reply.value) o m (omega (arith, few, le)))
 
--- a slice's end is the result of its call or a part of it
-slice-most : (from : Origin) (state : State) (does : List Cached) (end : RepEnd) → most_steps (slice_outcome from state does end) ≡ 38
-slice-most from state does (ByElement status done) = refl
-slice-most from state does (GoesOn next) = refl
-slice-most from state does (Complete done) = refl
+sets_or-counts : (from : Origin) (target : Vtl) (given : List Setting) (call : Option PartCall) (n : ℕ) → n ≤ 37 → Counts most_steps n (sets_or_asks from target given call)
+sets_or-counts from target given None n le =
+    let refusals = set_refusals from target given in
+    let acted = take (acting refusals) given in
+    let most = slice-most from (all_set target from.state acted) (all_emptied target acted) (slice_end from refusals) in
+    λ x. omega (arith, most, le)
+sets_or-counts from target given (Some call) n le = λ x. λ reply. omega arith
 
-set_by-most : (from : Origin) (header words : List ℕ) (refusal : Option HvStatus) → most_steps (set_by from header words refusal) ≡ 38
-set_by-most from header words None = slice-most from _ _ _
-set_by-most from header words (Some status) = refl
+sets_by-counts : (from : Origin) (header words : List ℕ) (refusal : Option HvStatus) (n : ℕ) → n ≤ 37 → Counts most_steps n (sets_by from header words refusal)
+sets_by-counts from header words None n le =
+    let target = target_level from.state.active header in
+    sets_or-counts from target (settings words) (write_in from.state.active target (count_of from) (settings words)) n le
+sets_by-counts from header words (Some status) n le = λ x. omega arith
 
-and-first : (a b : Bool) → (a && b) ≡ true → a ≡ true
-and-first true b e = refl
-and-first false b e = cc
+-- a slice that asks for a register of the partition is its call's only element
+unless-none : (refusal : Option HvStatus) (call : Option PartCall) (wanted : PartCall) → unless_refused refusal call ≡ Some wanted → (refusal ≡ None) × (call ≡ Some wanted)
+unless-none None call wanted e = (refl, e)
+unless-none (Some status) call wanted e = cc
 
-Counts-if : {A : Type 0} (most : A → ℕ) (n : ℕ) (b : Bool) (t u : Tree A) → (b ≡ true → Counts most n t) → Counts most n u → Counts most n (cond b t u)
-Counts-if most n true t u h g = h refl
-Counts-if most n false t u h g = g
+reads-partitions : (register : Option CallRegister) (wanted : PartCall) → read_call register ≡ Some wanted → names_one is_partitions register ≡ true
+reads-partitions None wanted e = cc
+reads-partitions (Some PartitionStatus) wanted e = refl
+reads-partitions (Some PartitionConfig) wanted e = refl
+reads-partitions (Some (Kept name)) wanted e = cc
+reads-partitions (Some EndOfMessage) wanted e = cc
+reads-partitions (Some CodePageOffsets) wanted e = cc
+reads-partitions (Some VpStatus) wanted e = cc
+reads-partitions (Some Capabilities) wanted e = cc
+
+partitions-alone : (caller target : Vtl) (count : ℕ) (register : Option CallRegister) → first_failed (name_checks caller target count register) ≡ None → names_one is_partitions register ≡ true → (count == 1) ≡ true
+partitions-alone caller target count register e is = by (names_one is_partitions register) (count == 1) is (none-fails (name_checks caller target count register) e).1.0 where
+  by : (b c : Bool) → b ≡ true → (b && not c) ≡ false → c ≡ true
+  by true true is fails = refl
+  by true false is fails = cc
+  by false c is fails = cc
+
+pub look-alone : (caller target : Vtl) (count : ℕ) (numbers : List ℕ) (wanted : PartCall) → look_in caller target count numbers ≡ Some wanted → (count == 1) ≡ true
+look-alone caller target count [] wanted e = cc
+look-alone caller target count (number ∷ numbers) wanted e =
+    let both = unless-none (get_refusal caller target count number) (read_call (register_of number)) wanted e in
+    partitions-alone caller target count (register_of number) both.0 (reads-partitions (register_of number) wanted both.1)
+
+gets_or-counts : (from : Origin) (target : Vtl) (found : List ℕ) (call : Option PartCall) (n : ℕ) → ((wanted : PartCall) → call ≡ Some wanted → n ≤ 7) → Counts most_steps n (puts_out from (slice_output from target found) (got_slice from target found)) → Counts most_steps n (gets_or_asks from target found call)
+gets_or-counts from target found None n few h = h
+gets_or-counts from target found (Some call) n few h = looks-counts from call n (few call refl)
 
 -- the words that hold the numbers of a slice: two in a word
 get_words-few : (start past : ℕ) → past ≤ start + 8 → words_between 4 start past ≤ 5
@@ -385,6 +443,9 @@ get_words-few start past le = omega arith
 
 set_words-few : (start past : ℕ) → past ≤ start + 8 → words_between 32 start past ≤ 32
 set_words-few start past le = omega arith
+
+page_words-few : (start past : ℕ) → past ≤ start + 8 → words_between 8 start past ≤ 8
+page_words-few start past le = omega arith
 
 one_word : (start past count : ℕ) → past ≤ count → (count == 1) ≡ true → words_between 4 start past ≤ 1
 one_word start past count le e = let one : count ≡ 1 = grind (arith, nat_tests) in omega (arith, le, one)
@@ -398,10 +459,10 @@ gets_by-counts from header words None n le =
     let few = get_words-few (start_of from) (past_of from) past in
     let long = output-length from target words in
     let most = slice-most from from.state [] (slice_end from (get_refusals from target found)) in
-    Counts-if most_steps n (is_look (count_of from) found) (looks from) (puts_out from (slice_output from target found) (got_slice from target found))
-    (λ e.
-    let only = one_word (start_of from) (past_of from) (count_of from) (past-inside (start_of from) (count_of from)) (and-first (count_of from == 1) _ e) in
-    looks-counts from n (omega (arith, only, le)))
+    gets_or-counts from target found (look_in from.state.active target (count_of from) found) n
+    (λ wanted e.
+    let only = one_word (start_of from) (past_of from) (count_of from) (past-inside (start_of from) (count_of from)) (look-alone from.state.active target (count_of from) found wanted e) in
+    omega (arith, only, le))
     (puts_out-counts from (slice_output from target found) (got_slice from target found) n (omega (arith, past, few, long, most, le)))
 
 -- an output adds the step of its page's mask
@@ -413,13 +474,13 @@ behind_output-counts : (b : Bool) (from : Origin) (generation n : ℕ) (rest : T
 behind_output-counts true from generation n rest le h = behind_page_mask-counts from.state.active from Write (output_address from.state) generation n rest le (λ m few. h m (omega arith))
 behind_output-counts false from generation n rest le h = h n (omega arith)
 
-reads_input-counts : (from : Origin) (row : Row) (address n : ℕ) → ((header words : List ℕ) → Counts most_steps (n + row.header / 8 + words_between row.element (start_of from) (past_of from)) (by_input from row.code header words)) → Counts most_steps n (reads_input from row address)
+reads_input-counts : (from : Origin) (row : Row) (address n : ℕ) → ((header words : List ℕ) → Counts most_steps (n + row.header / 8 + words_between row.read (start_of from) (past_of from)) (by_input from row.code header words)) → Counts most_steps n (reads_input from row address)
 reads_input-counts from row address n h =
     reads-counts most_steps n (address / 4096) (address % 4096 / 8) (row.header / 8) [] (reads_slice from row address) (λ header.
-    reads-counts most_steps (n + row.header / 8) (address / 4096) (address % 4096 / 8 + row.header / 8 + first_word row.element (start_of from)) (words_between row.element (start_of from) (past_of from)) [] (by_input from row.code header) (h header))
+    reads-counts most_steps (n + row.header / 8) (address / 4096) (address % 4096 / 8 + row.header / 8 + first_word row.read (start_of from)) (words_between row.read (start_of from) (past_of from)) [] (by_input from row.code header) (h header))
 
 by_memory-counts : (from : Origin) (row : Row) (address : ℕ)
-    → ((n : ℕ) (header words : List ℕ) → n ≤ 3 + one_if (has_output row) → Counts most_steps (n + row.header / 8 + words_between row.element (start_of from) (past_of from)) (by_input from row.code header words))
+    → ((n : ℕ) (header words : List ℕ) → n ≤ 3 + one_if (has_output row) → Counts most_steps (n + row.header / 8 + words_between row.read (start_of from) (past_of from)) (by_input from row.code header words))
     → Counts most_steps 0 (by_memory from row address)
 by_memory-counts from row address h = λ a. λ generation.
     behind_page_mask-counts from.state.active from Read address generation 2 (behind_output from row generation (reads_input from row address)) (omega arith) (λ n le.
@@ -427,7 +488,7 @@ by_memory-counts from row address h = λ a. λ generation.
 
 admitted-by : (from : Origin) (row : Row) → Counts most_steps 0 (by_memory from row (input_address from.state)) → Counts most_steps 0 (admitted from row)
 admitted-by from row h =
-    Counts-cond most_steps 0 (is_fast (input_value from.state)) (requests from row.code (fast_words from.state)) (by_memory from row (input_address from.state)) (requests-counts from row.code 0 (fast_words from.state) (omega arith)) h
+    Counts-cond most_steps 0 (is_fast (input_value from.state)) (requests from row.code (fast_words from.state) []) (by_memory from row (input_address from.state)) (requests-counts from row.code 0 (fast_words from.state) [] (omega arith)) h
 
 -- each of the calls that there are
 admitted-counts : (from : Origin) (code : ℕ) → IfSome (row_of code) (λ row. Counts most_steps 0 (admitted from row))
@@ -435,11 +496,15 @@ admitted-counts from code =
     let address = input_address from.state in
     let past = past-few (start_of from) (count_of from) in
     let few = set_words-few (start_of from) (past_of from) past in
+    let pages = page_words-few (start_of from) (past_of from) past in
     each-row (λ row. Counts most_steps 0 (admitted from row)) code
-    (admitted-by from partition_row (by_memory-counts from partition_row address (λ n header words le. left_for-counts from 0x000D (n + 16 / 8 + words_between 0 (start_of from) (past_of from)) header (omega (arith, le)))))
-    (admitted-by from level_row (by_memory-counts from level_row address (λ n header words le. left_for-counts from 0x000F (n + 240 / 8 + words_between 0 (start_of from) (past_of from)) header (omega (arith, le)))))
+    (admitted-by from flush_row (by_memory-counts from flush_row address (λ n header words le. left_for-counts from 0x0002 (n + 24 / 8 + words_between 0 (start_of from) (past_of from)) header words (omega (arith, le)))))
+    (admitted-by from flush_list_row (by_memory-counts from flush_list_row address (λ n header words le. left_for-counts from 0x0003 (n + 24 / 8 + words_between 0 (start_of from) (past_of from)) header words (omega (arith, le)))))
+    (admitted-by from modify_row (by_memory-counts from modify_row address (λ n header words le. left_for-counts from 0x000C (n + 16 / 8 + words_between 8 (start_of from) (past_of from)) header words (omega (arith, le, pages)))))
+    (admitted-by from partition_row (by_memory-counts from partition_row address (λ n header words le. left_for-counts from 0x000D (n + 16 / 8 + words_between 0 (start_of from) (past_of from)) header words (omega (arith, le)))))
+    (admitted-by from level_row (by_memory-counts from level_row address (λ n header words le. left_for-counts from 0x000F (n + 240 / 8 + words_between 0 (start_of from) (past_of from)) header words (omega (arith, le)))))
     (admitted-by from get_row (by_memory-counts from get_row address (λ n header words le. gets_by-counts from header words (header_refusal from header) (n + 16 / 8 + words_between 4 (start_of from) (past_of from)) (omega (arith, le)))))
-    (admitted-by from set_row (by_memory-counts from set_row address (λ n header words le. let most = set_by-most from header words (header_refusal from header) in λ x. omega (arith, le, few, most))))
+    (admitted-by from set_row (by_memory-counts from set_row address (λ n header words le. sets_by-counts from header words (header_refusal from header) (n + 16 / 8 + words_between 32 (start_of from) (past_of from)) (omega (arith, le, few)))))
 
 by_refusal-counts : (from : Origin) (row : Option Row) (refusal : Option HvStatus) → IfSome row (λ r. Counts most_steps 0 (admitted from r)) → Counts most_steps 0 (by_refusal from row refusal)
 by_refusal-counts from row (Some status) h = omega arith

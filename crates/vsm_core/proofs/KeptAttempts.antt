@@ -12,6 +12,7 @@ use Rattle.vsm_base.specs.declared.places.Vtl.TheVariants.{Zero, One}
 use Rattle.vsm_base.specs.declared.status.HvStatus.{HvStatus}
 use Rattle.vsm_core.specs.declared.event.Event.{Event}
 use Rattle.vsm_core.specs.declared.event.Event.TheVariants as events
+use Rattle.vsm_core.specs.declared.journal.Entry.{Entry}
 use Rattle.vsm_core.specs.declared.mark.Ending.{Ending}
 use Rattle.vsm_core.specs.declared.mark.EomWord.TheVariants as eoms
 use Rattle.vsm_core.specs.declared.mark.Grant.{Grant}
@@ -28,27 +29,28 @@ use Rattle.vsm_core.specs.declared.operation.Program.{Program}
 use Rattle.vsm_core.specs.declared.partition_state.PartitionState.{PartitionState}
 use Rattle.vsm_core.specs.declared.register.CallRegister.{CallRegister}
 use Rattle.vsm_core.specs.declared.register.CallRegister.TheVariants.{Kept}
+use Rattle.vsm_core.specs.declared.request.PartCall.{PartCall}
 use Rattle.vsm_core.specs.declared.request.Reply.{Reply}
 use Rattle.vsm_core.specs.Access.{Goal, Decision, Grants, Denies, Faults, access, start_fault}
-use Rattle.vsm_core.specs.Attempt.{attempt, begun, leaves, left_with, in_own_access, told_on, by_slot, posting, tells, refused, hit_tells, hits_on, intercepted, is_write_hit, is_read_hit, set_tree, get_tree, goal_of, returns, is_wanted, wanted_outcome, unwanted_outcome, polled_on, sending, sends, eom_on, behind_page_mask, requests, left_for, puts_out, looked_by, looks, gets_from, gets_by, by_input, reads_slice, reads_input, behind_output, by_memory, admitted, by_refusal, hypercall_tree}
+use Rattle.vsm_core.specs.Attempt.{attempt, begun, leaves, left_with, in_own_access, told_on, by_slot, posting, tells, refused, hit_tells, hits_on, intercepted, is_write_hit, is_read_hit, set_tree, get_tree, goal_of, returns, is_wanted, wanted_outcome, unwanted_outcome, polled_on, sending, sends, eom_on, behind_page_mask, requests, left_for, puts_out, looked_by, gets_or_asks, gets_by, sets_or_asks, sets_by, by_input, reads_slice, reads_input, behind_output, by_memory, admitted, by_refusal, hypercall_tree}
 use Rattle.vsm_core.specs.Calls.{Row, rows, row_of, code_in, is_fast, result_value}
 use Rattle.vsm_core.specs.Contexts.{enabled_by, has_level, is_legal_context, values_of, with_context}
 use Rattle.vsm_core.specs.Controllers.{Controllers, message_page, writes, eom_by, waiting_then}
 use Rattle.vsm_core.specs.Fills.{Cached}
-use Rattle.vsm_core.specs.Hypercalls.{input_value, input_address, output_address, has_output, fast_words, input_refusal, own_context, result_outcome, with_result}
+use Rattle.vsm_core.specs.Hypercalls.{input_value, input_address, output_address, has_output, fast_words, input_refusal, own_context, replied, result_outcome, with_result}
 use Rattle.vsm_core.specs.Keeps.{EndsIn, KeepsOther, SetsNone, other_level, after_attempts, IsAway}
 use Rattle.vsm_core.specs.Outcomes.{Origin, Outcome, Refusal, faulted, plain, outcome_at, fills, loaded, passed, spun, set_outcome, get_outcome, empties, note_of, register_note, held_outcome, denied_outcome, hit_outcome, next_vector, vector_or_zero, eom_outcome}
 use Rattle.vsm_core.specs.Processor.{Vp, answered, asking, attempted, came_to, does_all, marked_or_ended, operation_at, origin_of, saw, settled, tree_of}
-use Rattle.vsm_core.specs.RegisterCalls.{Setting, all_emptied, all_set, count_of, get_refusals, got_slice, header_refusal, is_look, past_of, put_at, register_checks, register_of, set_by, set_named, set_one, set_refusals, set_registers, settings, slice_end, slice_numbers, slice_outcome, slice_output, start_of, value_words}
+use Rattle.vsm_core.specs.RegisterCalls.{Setting, all_emptied, all_set, count_of, get_refusals, got_slice, header_refusal, look_in, past_of, put_at, register_checks, register_of, set_named, set_one, set_refusals, settings, write_in, slice_end, slice_numbers, slice_outcome, slice_output, start_of, value_words}
 use Rattle.vsm_core.specs.Registers.{Registers, is_legal, private_of, private_place, put as put_in, shared_place, with_private}
-use Rattle.vsm_core.specs.Reps.{RepEnd, Refused, GoesOn, Complete, acting, first_word, with_start, words_between}
-use Rattle.vsm_core.specs.Served.{after, answer}
+use Rattle.vsm_core.specs.Reps.{RepEnd, Refused, GoesOn, Complete, acting, first_word, replied_end, with_start, words_between}
+use Rattle.vsm_core.specs.Served.{after, answer, block}
 use Rattle.vsm_core.specs.State.{State, get, put, put_legal, gone_to, gone_on, may_name, operand, privilege_of, word_of}
 use Rattle.vsm_core.specs.Steps.{made}
 use Rattle.vsm_core.specs.Switch.{assist_page, by_call, by_interrupt, called, entered, is_zero, may_call, may_enter, may_return, restored_from, returned, with_active, with_pair}
 use Rattle.vsm_core.specs.Targets.{is_above, target_level}
 use Rattle.vsm_core.specs.Tree.{Tree, Ends, Asks, Wants, WordStep}
-use Rattle.vsm_core.specs.Whole.{Flat, answer_in, flat_after}
+use Rattle.vsm_core.specs.Whole.{Flat, answer_in, flat_after, with_entries}
 use Rattle.vsm_core.proofs.Checks.{NoneFails, none-fails}
 use Rattle.vsm_core.proofs.KeptLevels.{EndsIn-then_, EndsIn-cond, EndsIn-asks_all, EndsIn-reads, EndsIn-by_slot, Q-cond, Stays, same-stays, stays-then, put-stays, put_legal-stays, gone_to-stays, gone_on-stays, put-then-on, legal-then-on, keeps-so, keeps-same}
 
@@ -169,9 +171,6 @@ context-so s None value = keeps-so s _ (with_result-stays value s)
 context-so s (Some context) value =
     context-by (has_level s context.0) (is_legal_context context.1) s (enabled_by s context.0 (values_of context.1)) (λ t. with_result t value) (with_result-stays value) (level-off s context.0) refl
 
-requests-so : (from : Origin) (code : ℕ) (words : List ℕ) → EndsIn (Keeps from.state) (requests from code words)
-requests-so from code words = λ reply. context-so from.state (own_context reply.context) (result_value reply.status reply.done)
-
 page-so : (level : Vtl) (from : Origin) (kind : Access) (address generation : ℕ) (rest : Tree Outcome) → EndsIn (Keeps from.state) rest → EndsIn (Keeps from.state) (behind_page_mask level from kind address generation rest)
 page-so Zero from kind address generation rest h = λ mask.
     let r : Refusal = record { page = address / 4096; mask = mask; generation = generation; access = kind; gpa = address } in
@@ -184,6 +183,15 @@ slice-so from state does (Refused status done) h = keeps-so from.state _ (stays-
 slice-so from state does (GoesOn next) h = keeps-so from.state _ (stays-then from.state state _ h (put_legal-stays state names.Rcx (with_start (input_value from.state) next)))
 slice-so from state does (Complete done) h = keeps-so from.state _ (stays-then from.state state _ h (with_result-stays (result_value _ done) state))
 
+-- what the reply to a call comes to
+replied-so : (from : Origin) (reply : Reply) → Keeps from.state (replied from reply)
+replied-so from reply = context-so from.state (own_context reply.context) (result_value reply.status reply.done)
+
+requests-so : (from : Origin) (code : ℕ) (header elements : List ℕ) → EndsIn (Keeps from.state) (requests from code header elements)
+requests-so from code header elements = λ reply.
+    let end = replied_end reply.status reply.done (count_of from) in
+    Q-cond (Keeps from.state) (code == 0x000C) (slice_outcome from from.state [] end) (replied from reply) (slice-so from from.state [] end (same-stays from.state)) (replied-so from reply)
+
 -- a call that gets registers changes none of them
 puts_out-so : (from : Origin) (words : List ℕ) (o : Outcome) → Keeps from.state o → EndsIn (Keeps from.state) (puts_out from words o)
 puts_out-so from words o h =
@@ -194,13 +202,15 @@ looked_by-so from reply = λ a. λ generation.
     let o = result_outcome from from.state reply.status reply.done in
     page-so from.state.active from Write (output_address from.state) generation (puts_out from (value_words reply.value) o) (puts_out-so from (value_words reply.value) o (result-so from from.state reply.status reply.done (same-stays from.state)))
 
-gets_from-so : (from : Origin) (target : Vtl) (numbers : List ℕ) → EndsIn (Keeps from.state) (gets_from from target numbers)
-gets_from-so from target numbers =
-    EndsIn-cond (Keeps from.state) (is_look (count_of from) numbers) (looks from) (puts_out from (slice_output from target numbers) (got_slice from target numbers))
-    (λ x. looked_by-so from) (puts_out-so from (slice_output from target numbers) (got_slice from target numbers) (slice-so from from.state [] (slice_end from (get_refusals from target numbers)) (same-stays from.state)))
+gets_or_asks-so : (from : Origin) (target : Vtl) (numbers : List ℕ) (call : Option PartCall) → EndsIn (Keeps from.state) (gets_or_asks from target numbers call)
+gets_or_asks-so from target numbers None = puts_out-so from (slice_output from target numbers) (got_slice from target numbers) (slice-so from from.state [] (slice_end from (get_refusals from target numbers)) (same-stays from.state))
+gets_or_asks-so from target numbers (Some call) = λ x. looked_by-so from
 
 gets_by-so : (from : Origin) (header words : List ℕ) (refusal : Option HvStatus) → EndsIn (Keeps from.state) (gets_by from header words refusal)
-gets_by-so from header words None = gets_from-so from (target_level from.state.active header) (slice_numbers from words)
+gets_by-so from header words None =
+    let target = target_level from.state.active header in
+    let numbers = slice_numbers from words in
+    gets_or_asks-so from target numbers (look_in from.state.active target (count_of from) numbers)
 gets_by-so from header words (Some status) = λ x. result-so from from.state status (start_of from) (same-stays from.state)
 
 -- a call that sets registers of its own level
@@ -217,13 +227,18 @@ all-stays s target (setting ∷ settings) own =
     let h = one-stays s target setting own in
     stays-then s (set_one target s setting) _ h (all-stays (set_one target s setting) target settings (h.active ∙ own))
 
-set_by-so : (from : Origin) (header words : List ℕ) (refusal : Option HvStatus) → (refusal ≡ None → from.state.active ≡ target_level from.state.active header) → Keeps from.state (set_by from header words refusal)
-set_by-so from header words None own =
+sets_or_asks-so : (from : Origin) (target : Vtl) (settings : List Setting) (call : Option PartCall) → from.state.active ≡ target → EndsIn (Keeps from.state) (sets_or_asks from target settings call)
+sets_or_asks-so from target settings None own =
+    let refusals = set_refusals from target settings in
+    let acted = take (acting refusals) settings in
+    λ x. slice-so from (all_set target from.state acted) (all_emptied target acted) (slice_end from refusals) (all-stays from.state target acted own)
+sets_or_asks-so from target settings (Some call) own = λ x. replied-so from
+
+sets_by-so : (from : Origin) (header words : List ℕ) (refusal : Option HvStatus) → (refusal ≡ None → from.state.active ≡ target_level from.state.active header) → EndsIn (Keeps from.state) (sets_by from header words refusal)
+sets_by-so from header words None own =
     let target = target_level from.state.active header in
-    let refusals = set_refusals from target (settings words) in
-    let acted = take (acting refusals) (settings words) in
-    slice-so from (all_set target from.state acted) (all_emptied target acted) (slice_end from refusals) (all-stays from.state target acted (own refl))
-set_by-so from header words (Some status) own = result-so from from.state status (start_of from) (same-stays from.state)
+    sets_or_asks-so from target (settings words) (write_in from.state.active target (count_of from) (settings words)) (own refl)
+sets_by-so from header words (Some status) own = λ x. result-so from from.state status (start_of from) (same-stays from.state)
 
 -- a call of level 0 names no level above it
 below-zero : (level : Vtl) → is_above level Zero ≡ false → Zero ≡ level
@@ -237,9 +252,9 @@ header-own : (from : Origin) (level : Vtl) (header : List ℕ) → level ≡ Zer
 header-own from Zero header zero none = zero-own from.vps from.number header none
 header-own from One header zero none = cc
 
-set-registers-so : (from : Origin) (header words : List ℕ) → from.state.active ≡ Zero → Keeps from.state (set_registers from header words)
+set-registers-so : (from : Origin) (header words : List ℕ) → from.state.active ≡ Zero → EndsIn (Keeps from.state) (sets_by from header words (header_refusal from header))
 set-registers-so from header words zero =
-    set_by-so from header words (header_refusal from header) (λ e. header-own from from.state.active header zero (none-fails (register_checks from.vps from.number from.state.active header) e))
+    sets_by-so from header words (header_refusal from header) (λ e. header-own from from.state.active header zero (none-fails (register_checks from.vps from.number from.state.active header) e))
 
 -- a call by this code sets no registers of level 0 by level 1
 abbrev Spares : State → ℕ → Type 0
@@ -256,13 +271,14 @@ EndsIn-if Q false t u h g = g
 
 input-so : (from : Origin) (code : ℕ) (header words : List ℕ) → Spares from.state code → EndsIn (Keeps from.state) (by_input from code header words)
 input-so from code header words spares =
-    let set : Tree Outcome = left_with (set_registers from header words) in
-    EndsIn-cond (Keeps from.state) (code == 0x0050) (gets_by from header words (header_refusal from header)) (cond (code == 0x0051) set (left_for from code header)) (gets_by-so from header words (header_refusal from header))
-    (EndsIn-if (Keeps from.state) (code == 0x0051) set (left_for from code header) (λ e. λ x. set-registers-so from header words (is-zero from.state.active code spares e)) (λ x. requests-so from code header))
+    let set : Tree Outcome = sets_by from header words (header_refusal from header) in
+    let asked : Tree Outcome = left_for from code header words in
+    EndsIn-cond (Keeps from.state) (code == 0x0050) (gets_by from header words (header_refusal from header)) (cond (code == 0x0051) set asked) (gets_by-so from header words (header_refusal from header))
+    (EndsIn-if (Keeps from.state) (code == 0x0051) set asked (λ e. set-registers-so from header words (is-zero from.state.active code spares e)) (λ x. requests-so from code header words))
 
 reads_slice-so : (from : Origin) (row : Row) (address : ℕ) (header : List ℕ) → Spares from.state row.code → EndsIn (Keeps from.state) (reads_slice from row address header)
 reads_slice-so from row address header spares =
-    EndsIn-reads (Keeps from.state) (address / 4096) (address % 4096 / 8 + row.header / 8 + first_word row.element (start_of from)) (words_between row.element (start_of from) (past_of from)) [] (by_input from row.code header)
+    EndsIn-reads (Keeps from.state) (address / 4096) (address % 4096 / 8 + row.header / 8 + first_word row.read (start_of from)) (words_between row.read (start_of from) (past_of from)) [] (by_input from row.code header)
     (λ words. input-so from row.code header words spares)
 
 reads_input-so : (from : Origin) (row : Row) (address : ℕ) → Spares from.state row.code → EndsIn (Keeps from.state) (reads_input from row address)
@@ -280,7 +296,7 @@ by_memory-so from row address spares = λ a. λ generation.
 
 admitted-so : (from : Origin) (row : Row) → Spares from.state row.code → EndsIn (Keeps from.state) (admitted from row)
 admitted-so from row spares =
-    EndsIn-cond (Keeps from.state) (is_fast (input_value from.state)) (requests from row.code (fast_words from.state)) (by_memory from row (input_address from.state)) (requests-so from row.code (fast_words from.state)) (by_memory-so from row (input_address from.state) spares)
+    EndsIn-cond (Keeps from.state) (is_fast (input_value from.state)) (requests from row.code (fast_words from.state) []) (by_memory from row (input_address from.state)) (requests-so from row.code (fast_words from.state) []) (by_memory-so from row (input_address from.state) spares)
 
 by_refusal-so : (from : Origin) (row : Option Row) (refusal : Option HvStatus) → ((r : Row) → row ≡ Some r → Spares from.state r.code) → EndsIn (Keeps from.state) (by_refusal from row refusal)
 by_refusal-so from row (Some status) spares = result-so from from.state status 0 (same-stays from.state)
@@ -380,15 +396,15 @@ settled-so (Asks step k) v s same h = rw same (keeps-same s)
 settled-so (Wants q k) v s same h = rw same (keeps-same s)
 
 -- all that an attempt does, over words of any kind
-module _ {W : Type 0} (answers : W → WordStep → ℕ) (changes : W → WordStep → W) where
-  did-so : (partition : PartitionState) (op : Option Op) (v : Vp) (words : W) (t : Tree Outcome) (s : State) → v.state ≡ s → EndsIn (Keeps s) t → KeepsOther s (does_all answers changes partition op v words t).vp.state
+module _ {W : Type 0} (answers : W → WordStep → ℕ) (changes : W → WordStep → W) (adds : W → List Entry → W) where
+  did-so : (partition : PartitionState) (op : Option Op) (v : Vp) (words : W) (t : Tree Outcome) (s : State) → v.state ≡ s → EndsIn (Keeps s) t → KeepsOther s (does_all answers changes adds partition op v words t).vp.state
   did-so partition op v words (Ends o) s same h = settled-so (Ends o) v s same h
   did-so partition op v words (Asks step k) s same h =
       let x = answers words step in
       did-so partition op (saw op v (made step x)) (changes words step) (k x) s (saw-state op v (made step x) ∙ same) (h x)
   did-so partition op v words (Wants q k) s same h =
       let reply = answer partition q in
-      did-so (after partition q) op (answered reply (asking op v)) words (k reply) s same (h reply)
+      did-so (after partition q) op (answered reply (asking op v)) (adds words (block partition q)) (k reply) s same (h reply)
 
 tree-keeps : (from : Origin) (op : Option Op) → (op ≡ Some Hypercall → Spares from.state (code_in (input_value from.state))) → EndsIn (Keeps from.state) (tree_of from op)
 tree-keeps from None spares = faulted-so from Undefined
@@ -398,7 +414,7 @@ attempted-keeps : (program : Program) (v : Vp) (partition : PartitionState) (fla
 unfolding attempted
 attempted-keeps program v partition flat spares =
     let op = operation_at program v.state in
-    did-so (answer_in v.limits v.number) (flat_after v.limits v.number) partition op v flat (tree_of (origin_of v) op) v.state refl (tree-keeps (origin_of v) op spares)
+    did-so (answer_in v.limits v.number) (flat_after v.limits v.number) with_entries partition op v flat (tree_of (origin_of v) op) v.state refl (tree-keeps (origin_of v) op spares)
 
 other-twice : (level : Vtl) → other_level (other_level level) ≡ level
 other-twice Zero = refl

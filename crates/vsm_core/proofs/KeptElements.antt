@@ -7,12 +7,13 @@ use Rattle.vsm_base.specs.declared.name.Name.TheVariants as names
 use Rattle.vsm_base.specs.Names.{all_names}
 use Rattle.vsm_base.specs.declared.places.Vtl.{Vtl}
 use Rattle.vsm_base.specs.declared.status.HvStatus.{HvStatus}
+use Rattle.vsm_core.specs.Attempt.{left_with}
 use Rattle.vsm_core.specs.Calls.{start_in, count_in}
 use Rattle.vsm_core.specs.Fills.{Cached}
-use Rattle.vsm_core.specs.Hypercalls.{input_value}
-use Rattle.vsm_core.specs.Keeps.{KeepsTheRest}
+use Rattle.vsm_core.specs.Hypercalls.{input_value, result_outcome}
+use Rattle.vsm_core.specs.Keeps.{EndsIn, KeepsTheRest}
 use Rattle.vsm_core.specs.Outcomes.{Origin}
-use Rattle.vsm_core.specs.RegisterCalls.{Setting, all_set, all_emptied, count_of, start_of, header_refusal, set_refusals, get_refusals, set_by, set_registers, set_slice, got_slice, part_outcome, slice_outcome}
+use Rattle.vsm_core.specs.RegisterCalls.{Setting, all_set, all_emptied, count_of, start_of, set_refusals, get_refusals, set_slice, got_slice, part_outcome, slice_outcome}
 use Rattle.vsm_core.specs.Registers.{IsWhole, bits_of, has_bits, is_legal, get as get_in, shared_place, shared_names}
 use Rattle.vsm_core.specs.Reps.{acting, refusing, rep_end, with_start}
 use Rattle.vsm_core.specs.State.{State, put, word_of}
@@ -24,12 +25,9 @@ refused-slice : (from : Origin) (state : State) (does : List Cached) (start coun
 refused-slice from state does start count acted None some = absurd (some refl)
 refused-slice from state does start count acted (Some status) some = result-keeps from state does status (start + acted)
 
-set-by-keeps : (from : Origin) (header words : List ℕ) (refusal : Option HvStatus) → refusal ≢ None → KeepsTheRest from (set_by from header words refusal)
-set-by-keeps from header words None some = absurd (some refl)
-set-by-keeps from header words (Some status) some = result-keeps from from.state [] status (start_of from)
-
-pub set-header-keeps : (from : Origin) (header words : List ℕ) → header_refusal from header ≢ None → KeepsTheRest from (set_registers from header words)
-set-header-keeps from header words some = set-by-keeps from header words (header_refusal from header) some
+-- a call that is refused at its header
+pub header-keeps : (from : Origin) (status : HvStatus) → EndsIn (KeepsTheRest from) (left_with (result_outcome from from.state status (start_of from)))
+header-keeps from status = λ left. result-keeps from from.state [] status (start_of from)
 
 pub get-element-keeps : (from : Origin) (target : Vtl) (numbers : List ℕ) → refusing (get_refusals from target numbers) ≢ None → KeepsTheRest from (got_slice from target numbers)
 get-element-keeps from target numbers some =

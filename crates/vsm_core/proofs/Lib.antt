@@ -1,5 +1,7 @@
 pub mod Bounds
 pub mod Checks
+pub mod FewEntries
+pub mod HeldEntries
 pub mod KeptAttempts
 pub mod KeptElements
 pub mod KeptLevels
@@ -9,4 +11,5 @@ pub mod Places
 pub mod Requests
 pub mod SameAnswers
 pub mod ServedBlocks
+pub mod Slices
 pub mod Soundness

@@ -1,5 +1,5 @@
--- What an attempt asks of the partition: its processor is named, and nothing is asked after the reply.
-use Rattle.std.proofs.Common.{◌≡◌, ◌==◌, ◌+◌, ◌*◌, ◌/◌, ◌%◌, ℕ, zero, suc, Bool, true, false, cond, nat_lt, Option, Some, None, List, [], ◌∷◌, ◌++◌, take, drop, refl}
+-- What an attempt asks of the partition: its processor is named, a slice has few elements, and nothing is asked after the reply.
+use Rattle.std.proofs.Common.{◌≡◌, ◌==◌, ◌+◌, ◌*◌, ◌/◌, ◌%◌, ℕ, zero, suc, Bool, true, false, cond, nat_lt, Option, Some, None, List, [], ◌∷◌, ◌++◌, take, drop, length, length-append, refl, subst, arith}
 use Rattle.vsm_base.specs.Masks.{allows}
 use Rattle.vsm_base.specs.declared.name.Name.{Name}
 use Rattle.vsm_base.specs.declared.places.Access.{Access}
@@ -17,25 +17,28 @@ use Rattle.vsm_core.specs.declared.operation.Op.{Op}
 use Rattle.vsm_core.specs.declared.operation.Op.TheVariants.{Set, Get, Load, Store, Exec, Spin, Hypercall, VtlCall, VtlReturn, Poll}
 use Rattle.vsm_core.specs.declared.operation.Op.TheVariants as ops
 use Rattle.vsm_core.specs.declared.request.Heard.{Heard}
+use Rattle.vsm_core.specs.declared.request.PartCall.{PartCall}
 use Rattle.vsm_core.specs.declared.request.Reply.{Reply}
 use Rattle.vsm_core.specs.declared.request.Request.{Request}
 use Rattle.vsm_core.specs.Access.{Goal, Decision, Grants, Denies, Faults, data_step, covers, behind_mask, reaches, by_mask, at_page, entry_step, by_table_mask, at_table, tables, access, query_of, start_fault}
-use Rattle.vsm_core.specs.Attempt.{attempt, by_access, begun, leaves, left_with, in_own_access, told_on, by_slot, posting, tells, refused, hit_tells, hits_on, intercepted, is_write_hit, is_read_hit, set_tree, get_tree, goal_of, returns, is_wanted, wanted_outcome, unwanted_outcome, polled_on, sending, sends, eom_on, behind_page_mask, requests, left_for, puts_out, looked_by, looks, gets_from, gets_by, by_input, reads_slice, reads_input, behind_output, by_memory, admitted, by_refusal, hypercall_tree}
+use Rattle.vsm_core.specs.Attempt.{attempt, by_access, begun, leaves, left_with, in_own_access, told_on, by_slot, posting, tells, refused, hit_tells, hits_on, intercepted, is_write_hit, is_read_hit, set_tree, get_tree, goal_of, returns, is_wanted, wanted_outcome, unwanted_outcome, polled_on, sending, sends, eom_on, behind_page_mask, requests, left_for, served, puts_out, looked_by, gets_or_asks, gets_by, sets_or_asks, sets_by, by_input, reads_slice, reads_input, behind_output, by_memory, admitted, by_refusal, hypercall_tree}
 use Rattle.vsm_core.specs.Calls.{Row, row_of, code_in, is_fast}
 use Rattle.vsm_core.specs.Controllers.{Controllers, message_page, writes}
 use Rattle.vsm_core.specs.Fills.{Cached, Fill, Translation}
-use Rattle.vsm_core.specs.Hypercalls.{input_value, input_address, output_address, has_output, fast_words, input_refusal, request_of, look_request, replied, result_outcome}
+use Rattle.vsm_core.specs.Hypercalls.{input_value, input_address, output_address, has_output, fast_words, input_refusal, call_of, asked_of, request_of, replied, result_outcome}
 use Rattle.vsm_core.specs.Keeps.{EndsIn}
 use Rattle.vsm_core.specs.Outcomes.{Origin, Outcome, Refusal, faulted, plain, loaded, passed, spun, set_outcome, get_outcome, note_of, register_note, held_outcome, denied_outcome, hit_outcome, eom_outcome}
 use Rattle.vsm_core.specs.Processor.{tree_of}
-use Rattle.vsm_core.specs.RegisterCalls.{count_of, start_of, past_of, header_refusal, value_words, is_look, set_registers, slice_numbers, slice_output, got_slice}
-use Rattle.vsm_core.specs.Reps.{first_word, words_between}
+use Rattle.vsm_core.specs.RegisterCalls.{Setting, settings, count_of, start_of, past_of, header_refusal, value_words, look_in, write_in, slice_outcome, slice_numbers, slice_output, got_slice}
+use Rattle.vsm_core.specs.Protection.{IsSlice}
+use Rattle.vsm_core.specs.Reps.{RepEnd, Refused, GoesOn, Complete, first_word, words_between, replied_end}
 use Rattle.vsm_core.specs.State.{State, operand, privilege_of}
 use Rattle.vsm_core.specs.Switch.{may_call, may_return, may_enter, called, is_zero, assist_page, restored_from, by_call, by_interrupt}
 use Rattle.vsm_core.specs.Targets.{target_level}
 use Rattle.vsm_core.specs.Tree.{Tree, Ends, Asks, Wants, WordStep, then_, asks_all, reads, after, follow, by_reply, followed}
-use Rattle.vsm_core.specs.Walk.{Walked, Need, Mapped, Refused, walk}
+use Rattle.vsm_core.specs.Walk.{Walked, Need, Mapped, Refused as Faulty, walk}
 use Rattle.vsm_core.proofs.KeptLevels.{EndsIn-cond, EndsIn-asks_all, EndsIn-by_slot}
+use Rattle.vsm_core.proofs.Slices.{IsPaged, IfSlice, paged-row, read-slice, fast-slice, look-slice, write-slice}
 
 -- of each request of the tree, and of how it goes on by the reply, P holds
 abbrev pub Asked : {A : Type 0} → (Request → (Reply → Tree A) → Type 0) → Tree A → Type 0
@@ -76,9 +79,16 @@ asks_all-asked : {A : Type 0} (P : Request → (Reply → Tree A) → Type 0) (s
 asks_all-asked P [] rest h = h
 asks_all-asked P (s ∷ steps) rest h = λ x. asks_all-asked P steps rest h
 
-reads-asked : {A : Type 0} (P : Request → (Reply → Tree A) → Type 0) (page index count : ℕ) (found : List ℕ) (rest : List ℕ → Tree A) → ((words : List ℕ) → Asked P (rest words)) → Asked P (reads page index count found rest)
-reads-asked P page index zero found rest h = h found
-reads-asked P page index (suc count) found rest h = λ x. reads-asked P page (suc index) count (found ++ x ∷ []) rest h
+-- as many words are found as are read
+found-suc : (found : List ℕ) (x count : ℕ) (words : List ℕ) → length words ≡ length (found ++ x ∷ []) + count → length words ≡ length found + suc count
+found-suc found x count words long = omega (arith, long, length-append found (x ∷ []))
+
+reads_on-asked : {A : Type 0} (P : Request → (Reply → Tree A) → Type 0) (page index count : ℕ) (found : List ℕ) (rest : List ℕ → Tree A) → ((words : List ℕ) → length words ≡ length found + count → Asked P (rest words)) → Asked P (reads page index count found rest)
+reads_on-asked P page index zero found rest h = h found (omega arith)
+reads_on-asked P page index (suc count) found rest h = λ x. reads_on-asked P page (suc index) count (found ++ x ∷ []) rest (λ words long. h words (found-suc found x count words long))
+
+reads-asked : {A : Type 0} (P : Request → (Reply → Tree A) → Type 0) (page index count : ℕ) (rest : List ℕ → Tree A) → ((words : List ℕ) → length words ≡ count → Asked P (rest words)) → Asked P (reads page index count [] rest)
+reads-asked P page index count rest h = reads_on-asked P page index count [] rest (λ words long. h words (omega (arith, long)))
 
 unasked-cond : {A : Type 0} (b : Bool) (t u : Tree A) → Unasked t → Unasked u → Unasked (cond b t u)
 unasked-cond true t u h g = h
@@ -113,7 +123,7 @@ module _ (goal : Goal) where
       unasked-cond (nat_lt page goal.pages) (behind_mask goal.level page (by_table_mask more entries generation page index) (entry_step more entries page index)) (Ends (Faults Unmapped))
       (behind-unasked goal.level page (by_table_mask more entries generation page index) (entry_step more entries page index) (λ mask. by_table_mask-unasked more entries generation page index mask h) (λ x. h (entries ++ x ∷ []))) tt
   at_table-unasked more entries generation (Mapped to) h = at_page-unasked to generation
-  at_table-unasked more entries generation (Refused fault) h = tt
+  at_table-unasked more entries generation (Faulty fault) h = tt
 
   tables-unasked : (more generation : ℕ) (entries : List ℕ) → Unasked (tables more goal generation entries)
   tables-unasked zero generation entries = at_table-unasked (λ _. Ends (Faults Page)) entries generation (walk (query_of goal) entries) (λ es. tt)
@@ -213,49 +223,69 @@ module _ (P : Request → (Reply → Tree Outcome) → Type 0) (from : Origin) w
       cond-asked P (is_read_hit from name) (intercepted from note) (Ends (get_outcome from name)) (intercepted-asked note) tt
 
 -- of all that this caller asks, P holds
-module _ (P : Request → (Reply → Tree Outcome) → Type 0) (from : Origin) (own : (code : ℕ) (words : List ℕ) → P (request_of from code words) (λ reply. Ends (replied from reply))) (look : P (look_request from) (looked_by from)) where
-  gets_from-asked : (target : Vtl) (numbers : List ℕ) → Asked P (gets_from from target numbers)
-  gets_from-asked target numbers =
-      cond-asked P (is_look (count_of from) numbers) (looks from) (puts_out from (slice_output from target numbers) (got_slice from target numbers))
-      (λ x. look) (puts_out-asked P from (slice_output from target numbers) (got_slice from target numbers))
+module _ (P : Request → (Reply → Tree Outcome) → Type 0) (from : Origin)
+    (own : (code : ℕ) (header elements : List ℕ) → IsSlice (call_of code header elements (start_of from) (count_of from)) → P (request_of from code header elements) (λ reply. Ends (served from code reply)))
+    (look : (call : PartCall) → IsSlice call → P (asked_of from call) (looked_by from))
+    (write : (call : PartCall) → IsSlice call → P (asked_of from call) (λ reply. Ends (replied from reply))) where
+  gets_or_asks-asked : (target : Vtl) (numbers : List ℕ) (call : Option PartCall) → IfSlice call → Asked P (gets_or_asks from target numbers call)
+  gets_or_asks-asked target numbers None slice = puts_out-asked P from (slice_output from target numbers) (got_slice from target numbers)
+  gets_or_asks-asked target numbers (Some call) slice = λ x. look call slice
 
   gets_by-asked : (header words : List ℕ) (refusal : Option HvStatus) → Asked P (gets_by from header words refusal)
-  gets_by-asked header words None = gets_from-asked (target_level from.state.active header) (slice_numbers from words)
+  gets_by-asked header words None =
+      let target = target_level from.state.active header in
+      let numbers = slice_numbers from words in
+      gets_or_asks-asked target numbers (look_in from.state.active target (count_of from) numbers) (look-slice from.state.active target (count_of from) numbers)
   gets_by-asked header words (Some status) = λ x. tt
 
-  by_input-asked : (code : ℕ) (header words : List ℕ) → Asked P (by_input from code header words)
-  by_input-asked code header words =
-      let set : Tree Outcome = left_with (set_registers from header words) in
-      cond-asked P (code == 0x0050) (gets_by from header words (header_refusal from header)) (cond (code == 0x0051) set (left_for from code header)) (gets_by-asked header words (header_refusal from header))
-      (cond-asked P (code == 0x0051) set (left_for from code header) (λ x. tt) (λ x. own code header))
+  sets_or_asks-asked : (target : Vtl) (settings : List Setting) (call : Option PartCall) → IfSlice call → Asked P (sets_or_asks from target settings call)
+  sets_or_asks-asked target settings None slice = λ x. tt
+  sets_or_asks-asked target settings (Some call) slice = λ x. write call slice
 
-  reads_slice-asked : (row : Row) (address : ℕ) (header : List ℕ) → Asked P (reads_slice from row address header)
-  reads_slice-asked row address header =
-      reads-asked P (address / 4096) (address % 4096 / 8 + row.header / 8 + first_word row.element (start_of from)) (words_between row.element (start_of from) (past_of from)) [] (by_input from row.code header) (by_input-asked row.code header)
+  sets_by-asked : (header words : List ℕ) (refusal : Option HvStatus) → Asked P (sets_by from header words refusal)
+  sets_by-asked header words None =
+      let target = target_level from.state.active header in
+      sets_or_asks-asked target (settings words) (write_in from.state.active target (count_of from) (settings words)) (write-slice from.state.active target (count_of from) (settings words))
+  sets_by-asked header words (Some status) = λ x. tt
 
-  reads_input-asked : (row : Row) (address : ℕ) → Asked P (reads_input from row address)
-  reads_input-asked row address = reads-asked P (address / 4096) (address % 4096 / 8) (row.header / 8) [] (reads_slice from row address) (reads_slice-asked row address)
+  by_input-asked : (code : ℕ) (header words : List ℕ) → IsSlice (call_of code header words (start_of from) (count_of from)) → Asked P (by_input from code header words)
+  by_input-asked code header words slice =
+      let get : Tree Outcome = gets_by from header words (header_refusal from header) in
+      let set : Tree Outcome = sets_by from header words (header_refusal from header) in
+      let asks : Tree Outcome = left_for from code header words in
+      cond-asked P (code == 0x0050) get (cond (code == 0x0051) set asks) (gets_by-asked header words (header_refusal from header))
+      (cond-asked P (code == 0x0051) set asks (sets_by-asked header words (header_refusal from header)) (λ x. own code header words slice))
 
-  by_memory-asked : (row : Row) (address : ℕ) → Asked P (by_memory from row address)
-  by_memory-asked row address = λ a. λ generation.
+  reads_slice-asked : (row : Row) (address : ℕ) (header : List ℕ) → IsPaged (start_of from) (count_of from) row → Asked P (reads_slice from row address header)
+  reads_slice-asked row address header paged =
+      reads-asked P (address / 4096) (address % 4096 / 8 + row.header / 8 + first_word row.read (start_of from)) (words_between row.read (start_of from) (past_of from)) (by_input from row.code header)
+      (λ words long. by_input-asked row.code header words (read-slice row (input_value from.state) header words paged long))
+
+  reads_input-asked : (row : Row) (address : ℕ) → IsPaged (start_of from) (count_of from) row → Asked P (reads_input from row address)
+  reads_input-asked row address paged = reads-asked P (address / 4096) (address % 4096 / 8) (row.header / 8) (reads_slice from row address) (λ header long. reads_slice-asked row address header paged)
+
+  by_memory-asked : (row : Row) (address : ℕ) → IsPaged (start_of from) (count_of from) row → Asked P (by_memory from row address)
+  by_memory-asked row address paged = λ a. λ generation.
       let input = reads_input from row address in
-      behind_page_mask-asked P from from.state.active Read address generation (behind_output from row generation input) (behind_output-asked P from row generation input (reads_input-asked row address))
+      behind_page_mask-asked P from from.state.active Read address generation (behind_output from row generation input) (behind_output-asked P from row generation input (reads_input-asked row address paged))
 
-  admitted-asked : (row : Row) → Asked P (admitted from row)
-  admitted-asked row =
-      cond-asked P (is_fast (input_value from.state)) (requests from row.code (fast_words from.state)) (by_memory from row (input_address from.state)) (own row.code (fast_words from.state)) (by_memory-asked row (input_address from.state))
+  admitted-asked : (row : Row) → IsPaged (start_of from) (count_of from) row → Asked P (admitted from row)
+  admitted-asked row paged =
+      cond-asked P (is_fast (input_value from.state)) (requests from row.code (fast_words from.state) []) (by_memory from row (input_address from.state))
+      (own row.code (fast_words from.state) [] (fast-slice row (input_value from.state) (fast_words from.state) paged)) (by_memory-asked row (input_address from.state) paged)
 
-  by_refusal-asked : (row : Option Row) (refusal : Option HvStatus) → Asked P (by_refusal from row refusal)
-  by_refusal-asked row (Some status) = tt
-  by_refusal-asked None None = tt
-  by_refusal-asked (Some row) None = admitted-asked row
+  by_refusal-asked : (row : Option Row) (refusal : Option HvStatus) → ((r : Row) → row ≡ Some r → refusal ≡ None → IsPaged (start_of from) (count_of from) r) → Asked P (by_refusal from row refusal)
+  by_refusal-asked row (Some status) paged = tt
+  by_refusal-asked None None paged = tt
+  by_refusal-asked (Some row) None paged = admitted-asked row (paged row refl refl)
 
   hypercall-asked : Asked P (hypercall_tree from)
   hypercall-asked =
       let value = input_value from.state in
       let row = row_of (code_in value) in
       let refusal = input_refusal from.pages row value (input_address from.state) (output_address from.state) in
-      cond-asked P (privilege_of from.state == 0) (by_refusal from row refusal) (Ends (faulted from Undefined)) (by_refusal-asked row refusal) tt
+      cond-asked P (privilege_of from.state == 0) (by_refusal from row refusal) (Ends (faulted from Undefined))
+      (by_refusal-asked row refusal (λ r is none. paged-row from.pages r value (input_address from.state) (output_address from.state) is (subst (λ o. input_refusal from.pages o value (input_address from.state) (output_address from.state) ≡ None) is none))) tt
 
   attempt-asked : (op : Op) → Asked P (attempt from op)
   attempt-asked (Set name value) = set-asked P from name value
@@ -286,9 +316,10 @@ IsNoAgain _ = Unit {0}
 abbrev pub NoAgain : Outcome → Type 0
 NoAgain o = IsNoAgain o.what
 
--- it is the processor of this number that asks; after any reply nothing more is asked, and no spin goes on
+-- it is the processor of this number that asks for a slice; after any reply nothing more is asked, and no spin goes on
 pub record IsOwnRequest (number : ℕ) (q : Request) (k : Reply → Tree Outcome) : Type 0 where
   pub by : q.by.0 ≡ number
+  pub slice : IsSlice q.call
   pub ends : (reply : Reply) → Unasked (k reply) × EndsIn NoAgain (k reply)
 
 refused-no-again : (from : Origin) (gva : Option ℕ) (r : Refusal) (does : List Cached) → EndsIn NoAgain (refused from gva r does)
@@ -307,14 +338,57 @@ puts_out-no-again : (from : Origin) (reply : Reply) → EndsIn NoAgain (puts_out
 puts_out-no-again from reply =
     EndsIn-asks_all NoAgain (writes (output_address from.state / 4096) (output_address from.state % 4096 / 8 + 2 * start_of from) (value_words reply.value)) (left_with (result_outcome from from.state reply.status reply.done)) (λ x. tt)
 
-look-own : (from : Origin) → IsOwnRequest from.number (look_request from) (looked_by from)
-look-own from = record {
+look-own : (from : Origin) (call : PartCall) → IsSlice call → IsOwnRequest from.number (asked_of from call) (looked_by from)
+look-own from call slice = record {
   by = refl;
+  slice = slice;
   ends = λ reply. (looked_by-asked (λ q k. ⊥) from reply, λ a. λ generation. looked-no-again from from.state.active generation (puts_out from (value_words reply.value) (result_outcome from from.state reply.status reply.done)) (puts_out-no-again from reply));
 }
 
-own-tree : (from : Origin) (op : Option Op) → Asked (IsOwnRequest from.number) (tree_of from op)
-own-tree from op = tree-asked (IsOwnRequest from.number) from (λ code words. record { by = refl; ends = λ reply. (tt, tt) }) (look-own from) op
+slice-no-again : (from : Origin) (end : RepEnd) → NoAgain (slice_outcome from from.state [] end)
+slice-no-again from (Refused status done) = tt
+slice-no-again from (GoesOn next) = tt
+slice-no-again from (Complete done) = tt
+
+served-no-again : (slice : Bool) (from : Origin) (end : RepEnd) (reply : Reply) → NoAgain (cond slice (slice_outcome from from.state [] end) (replied from reply))
+served-no-again true from end reply = slice-no-again from end
+served-no-again false from end reply = tt
+
+call-own : (from : Origin) (code : ℕ) (header elements : List ℕ) → IsSlice (call_of code header elements (start_of from) (count_of from)) → IsOwnRequest from.number (request_of from code header elements) (λ reply. Ends (served from code reply))
+call-own from code header elements slice = record {
+  by = refl;
+  slice = slice;
+  ends = λ reply. (tt, served-no-again (code == 0x000C) from (replied_end reply.status reply.done (count_of from)) reply);
+}
+
+write-own : (from : Origin) (call : PartCall) → IsSlice call → IsOwnRequest from.number (asked_of from call) (λ reply. Ends (replied from reply))
+write-own from call slice = record { by = refl; slice = slice; ends = λ reply. (tt, tt) }
+
+pub own-tree : (from : Origin) (op : Option Op) → Asked (IsOwnRequest from.number) (tree_of from op)
+own-tree from op = tree-asked (IsOwnRequest from.number) from (call-own from) (look-own from) (write-own from) op
+
+-- P holds of all requests, whatever is answered and replied
+abbrev pub AsksOnly : {A : Type 0} → (Request → Type 0) → Tree A → Type 0
+AsksOnly P (Ends a) = Unit {0}
+AsksOnly P (Asks s k) = (x : ℕ) → AsksOnly P (k x)
+AsksOnly P (Wants q k) = P q × ((reply : Reply) → AsksOnly P (k reply))
+
+unasked-only : {A : Type 0} (P : Request → Type 0) (t : Tree A) → Unasked t → AsksOnly P t
+unasked-only P (Ends a) h = tt
+unasked-only P (Asks s k) h = λ x. unasked-only P (k x) (h x)
+unasked-only P (Wants q k) h = absurd h
+
+abbrev pub IsSliceOf : ℕ → Request → Type 0
+IsSliceOf number q = (q.by.0 ≡ number) × IsSlice q.call
+
+own-slices : (number : ℕ) (t : Tree Outcome) → Asked (IsOwnRequest number) t → AsksOnly (IsSliceOf number) t
+own-slices number (Ends o) h = tt
+own-slices number (Asks s k) h = λ x. own-slices number (k x) (h x)
+own-slices number (Wants q k) h = ((h.by, h.slice), λ reply. unasked-only (IsSliceOf number) (k reply) (h.ends reply).0)
+
+-- each request of an attempt is its own processor's, and a slice
+pub attempt-slices : (from : Origin) (op : Op) → AsksOnly (IsSliceOf from.number) (attempt from op)
+attempt-slices from op = own-slices from.number (attempt from op) (own-tree from (Some op))
 
 -- the same after the reply
 by_reply-own : (number : ℕ) (t : Tree Outcome) (reply : Reply) → Asked (IsOwnRequest number) t → Asked (IsOwnRequest number) (by_reply t reply)

@@ -1,6 +1,7 @@
 -- The shared words answer an attempt as their masks, generation, posted words and memory do.
-use Rattle.std.proofs.Common.{◌≡◌, ◌<◌, ◌≤◌, ◌+◌, ◌*◌, ℕ, Option, Some, List, [], ◌∷◌, refl, sym, ap, ◌∙◌, subst, arith, slice_index, slice_set, take, drop, bit_or}
-use Rattle.std.proofs.lemmas.List.{take-set-le, drop-set-lt, drop-set-add, get_or-take, get_or-drop, get_or-set_other}
+use Rattle.std.proofs.Common.{◌≡◌, ◌<◌, ◌≤◌, ◌+◌, ◌*◌, ℕ, Option, Some, List, [], ◌∷◌, ◌++◌, refl, sym, ap, ◌∙◌, subst, arith, slice_index, slice_set, take, drop, bit_or}
+use Rattle.std.proofs.lemmas.List.{append-nil, append_assoc, take-set-le, drop-set-lt, drop-set-add, get_or-take, get_or-drop, get_or-set_other}
+use Rattle.std.proofs.Math.ListN.{length-set}
 use Rattle.std.proofs.Math.Seq.{take-set-lt}
 use Rattle.vsm_base.specs.Levels.{level_number}
 use Rattle.vsm_base.specs.declared.places.Limits.{Limits}
@@ -12,20 +13,23 @@ use Rattle.vsm_core.specs.declared.event.PendingWord.TheVariants.{Start, Vectors
 use Rattle.vsm_core.specs.Tree.{Tree, Ends, Asks, Wants, WordStep, Entering, Checking, Masking, Reading, Writing, Leaving, Posting, Taking}
 use Rattle.vsm_core.specs.declared.operation.Op.{Op}
 use Rattle.vsm_core.specs.declared.partition_state.PartitionState.{PartitionState}
-use Rattle.vsm_core.specs.AtOnce.{SameDid}
+use Rattle.vsm_core.specs.AtOnce.{SameDid, IsInStep}
 use Rattle.vsm_core.specs.Attempt.{attempt}
 use Rattle.vsm_core.specs.Outcomes.{Outcome}
-use Rattle.vsm_core.specs.Processor.{Vp, saw, asking, answered, origin_of, does_all}
-use Rattle.vsm_core.specs.Served.{answer, after, block}
+use Rattle.vsm_core.specs.Processor.{Vp, Did, saw, asking, answered, origin_of, does_all}
+use Rattle.vsm_core.specs.Served.{answer, after, block, state_after, joined}
 use Rattle.vsm_core.specs.Steps.{MayStep, IsPending, IsVectors, phase_of, made}
 use Rattle.vsm_core.specs.Sound.{Sound, IsOver}
-use Rattle.vsm_core.specs.Whole.{Flat, answer_in, flat_after, with_posted, memory_place, posted_place}
+use Rattle.vsm_core.specs.Whole.{Flat, answer_in, flat_after, with_entries, with_posted, memory_place, posted_place}
 use Rattle.vsm_core.specs.Words.{Holds, answer_of, words_by, busy_at, posted_at, memory_at, generation_at}
+use Rattle.vsm_core.specs.Entries.{words_by_entries}
+use Rattle.vsm_core.proofs.HeldEntries.{entries-hold, entries-in-step}
 use Rattle.vsm_core.proofs.Soundness.{attempt-sound}
 
 -- a busy word is none of them
 busy_set : (limits : Limits) (p value : ℕ) (words : List ℕ) (flat : Flat) → p < limits.vps → Holds limits words flat → Holds limits (slice_set words (busy_at limits p) value) flat
 busy_set limits p value words flat low h = record {
+  long = rw (length-set words (busy_at limits p) value) h.long;
   of_masks = take-set-le limits.pages words (busy_at limits p) value (omega arith) ∙ h.of_masks;
   of_generation = get_or-set_other words (busy_at limits p) (generation_at limits) value 0 (omega arith) ∙ h.of_generation;
   of_posted = ap (take (9 * limits.vps)) (drop-set-lt (posted_at limits) words (busy_at limits p) value (omega arith)) ∙ h.of_posted;
@@ -37,6 +41,7 @@ memory_set : (limits : Limits) (place value : ℕ) (words : List ℕ) (flat : Fl
 memory_set limits place value words flat h =
     let far : memory_at limits + place ≡ posted_at limits + (9 * limits.vps + place) = omega arith in
     record {
+      long = rw (length-set words (memory_at limits + place) value) h.long;
       of_masks = take-set-le limits.pages words (memory_at limits + place) value (omega arith) ∙ h.of_masks;
       of_generation = get_or-set_other words (memory_at limits + place) (generation_at limits) value 0 (omega arith) ∙ h.of_generation;
       of_posted = ap (λ i. take (9 * limits.vps) (drop (posted_at limits) (slice_set words i value))) far ∙ ap (take (9 * limits.vps)) (drop-set-add (posted_at limits) words (9 * limits.vps + place) value) ∙ take-set-le (9 * limits.vps) (drop (posted_at limits) words) (9 * limits.vps + place) value (omega arith) ∙ h.of_posted;
@@ -46,6 +51,7 @@ memory_set limits place value words flat h =
 -- a posted word is none but its own
 posted_set : (limits : Limits) (place value : ℕ) (words : List ℕ) (flat : Flat) → place < 9 * limits.vps → Holds limits words flat → Holds limits (slice_set words (posted_at limits + place) value) (with_posted flat place value)
 posted_set limits place value words flat low h = record {
+  long = rw (length-set words (posted_at limits + place) value) h.long;
   of_masks = take-set-le limits.pages words (posted_at limits + place) value (omega arith) ∙ h.of_masks;
   of_generation = get_or-set_other words (posted_at limits + place) (generation_at limits) value 0 (omega arith) ∙ h.of_generation;
   of_posted = ap (take (9 * limits.vps)) (drop-set-add (posted_at limits) words place value) ∙ take-set-lt (9 * limits.vps) (drop (posted_at limits) words) place value low ∙ ap (λ m. slice_set m place value) h.of_posted;
@@ -93,21 +99,67 @@ still_holds limits p es (Posting vp word bits) words flat low may h =
     subst (λ x. Holds limits (slice_set words (posted_at limits + place) (bit_or x bits)) (with_posted flat place (bit_or (slice_index flat.posted place) bits))) (sym (posted_answer limits place words flat inside h)) (posted_set limits place _ words flat inside h)
 still_holds limits p es (Taking word) words flat low may h = posted_set limits (posted_place limits p word) 0 words flat (pending_low limits p word low may) h
 
+-- no step of a processor changes the journal
+pub journal-stays : (limits : Limits) (p : ℕ) (flat : Flat) (step : WordStep) → (flat_after limits p flat step).journal ≡ flat.journal
+journal-stays limits p flat Entering = refl
+journal-stays limits p flat Checking = refl
+journal-stays limits p flat (Masking page) = refl
+journal-stays limits p flat (Reading page index) = refl
+journal-stays limits p flat (Writing page index value) = refl
+journal-stays limits p flat Leaving = refl
+journal-stays limits p flat (Posting vp word bits) = refl
+journal-stays limits p flat (Taking word) = refl
+
+step-stays : (limits : Limits) (p : ℕ) (s : PartitionState) (flat : Flat) (step : WordStep) → IsInStep limits s flat → IsInStep limits s (flat_after limits p flat step)
+step-stays limits p s flat step h = record { pages = h.pages; rounds = rw (journal-stays limits p flat step) h.rounds }
+
 -- both come to the same: each step is answered alike, and each request is served by the same partition
-pub same_did : (Q : List Event → Outcome → Type 0) (limits : Limits) (p : ℕ) (op : Option Op) (s : PartitionState) (v : Vp) (es : List Event) (t : Tree Outcome) (words : List ℕ) (flat : Flat) → p < limits.vps → Sound limits Q es t → Holds limits words flat
-    → SameDid limits (does_all (answer_of limits p) (words_by limits p) s op v words t) (does_all (answer_in limits p) (flat_after limits p) s op v flat t)
-same_did Q limits p op s v es (Ends o) words flat low sound h = record { vp = refl; served = refl; holds = h }
-same_did Q limits p op s v es (Asks step k) words flat low sound h =
-    let x = answer_of limits p words step in
-    let e = same_answer limits p es step words flat low sound.0 h in
-    let r = same_did Q limits p op s (saw op v (made step x)) (made step x ∷ es) (k x) (words_by limits p words step) (flat_after limits p flat step) low (sound.1 x) (still_holds limits p es step words flat low sound.0 h) in
-    subst (λ y. SameDid limits (does_all (answer_of limits p) (words_by limits p) s op (saw op v (made step x)) (words_by limits p words step) (k x)) (does_all (answer_in limits p) (flat_after limits p) s op (saw op v (made step y)) (flat_after limits p flat step) (k y))) e r
-same_did Q limits p op s v es (Wants q k) words flat low sound h =
+pub same_did : (Q : List Event → Outcome → Type 0) (limits : Limits) (p : ℕ) (op : Option Op) (s : PartitionState) (v : Vp) (es : List Event) (t : Tree Outcome) (words : List ℕ) (flat : Flat) → p < limits.vps → Sound limits Q es t → IsInStep limits s flat → Holds limits words flat
+    → SameDid limits (does_all (answer_of limits p) (words_by limits p) (words_by_entries limits) s op v words t) (does_all (answer_in limits p) (flat_after limits p) with_entries s op v flat t)
+same_did Q limits p op s v es (Ends o) words flat low sound step h = record { vp = refl; served = refl; holds = h }
+same_did Q limits p op s v es (Asks asked k) words flat low sound step h =
+    let x = answer_of limits p words asked in
+    let e = same_answer limits p es asked words flat low sound.0 h in
+    let r = same_did Q limits p op s (saw op v (made asked x)) (made asked x ∷ es) (k x) (words_by limits p words asked) (flat_after limits p flat asked) low (sound.1 x) (step-stays limits p s flat asked step) (still_holds limits p es asked words flat low sound.0 h) in
+    subst (λ y. SameDid limits (does_all (answer_of limits p) (words_by limits p) (words_by_entries limits) s op (saw op v (made asked x)) (words_by limits p words asked) (k x)) (does_all (answer_in limits p) (flat_after limits p) with_entries s op (saw op v (made asked y)) (flat_after limits p flat asked) (k y))) e r
+same_did Q limits p op s v es (Wants q k) words flat low sound step h =
     let reply = answer s q in
-    let r = same_did Q limits p op (after s q) (answered reply (asking op v)) es (k reply) words flat low (sound.1 reply) h in
+    let r = same_did Q limits p op (after s q) (answered reply (asking op v)) es (k reply) (words_by_entries limits words (block s q)) (with_entries flat (block s q)) low (sound.1 reply) (entries-in-step limits s q flat step) (entries-hold limits s q words flat step h) in
     record { vp = r.vp; served = ap (λ served. (q, block s q) ∷ served) r.served; holds = r.holds }
 
-pub attempt-same : (v : Vp) (s : PartitionState) (op : Op) (words : List ℕ) (flat : Flat) → v.number < v.limits.vps → Holds v.limits words flat
-    → SameDid v.limits (does_all (answer_of v.limits v.number) (words_by v.limits v.number) s (Some op) v words (attempt (origin_of v) op)) (does_all (answer_in v.limits v.number) (flat_after v.limits v.number) s (Some op) v flat (attempt (origin_of v) op))
-attempt-same v s op words flat low h =
-    same_did IsOver v.limits v.number (Some op) s v [] (attempt (origin_of v) op) words flat low (attempt-sound v.limits v.number v.state v.controllers op [] low refl) h
+pub attempt-same : (v : Vp) (s : PartitionState) (op : Op) (words : List ℕ) (flat : Flat) → v.number < v.limits.vps → IsInStep v.limits s flat → Holds v.limits words flat
+    → SameDid v.limits (does_all (answer_of v.limits v.number) (words_by v.limits v.number) (words_by_entries v.limits) s (Some op) v words (attempt (origin_of v) op)) (does_all (answer_in v.limits v.number) (flat_after v.limits v.number) with_entries s (Some op) v flat (attempt (origin_of v) op))
+attempt-same v s op words flat low step h =
+    same_did IsOver v.limits v.number (Some op) s v [] (attempt (origin_of v) op) words flat low (attempt-sound v.limits v.number v.state v.controllers op [] low refl) step h
+
+-- the partition stays in step with the journal
+pub did-in-step : (limits : Limits) (p : ℕ) (op : Option Op) (s : PartitionState) (v : Vp) (t : Tree Outcome) (flat : Flat) → IsInStep limits s flat
+    → let did = does_all (answer_in limits p) (flat_after limits p) with_entries s op v flat t in IsInStep limits (state_after s did.served) did.words
+did-in-step limits p op s v (Ends o) flat step = step
+did-in-step limits p op s v (Asks asked k) flat step =
+    let x = answer_in limits p flat asked in
+    did-in-step limits p op s (saw op v (made asked x)) (k x) (flat_after limits p flat asked) (step-stays limits p s flat asked step)
+did-in-step limits p op s v (Wants q k) flat step =
+    let reply = answer s q in
+    did-in-step limits p op (after s q) (answered reply (asking op v)) (k reply) (with_entries flat (block s q)) (entries-in-step limits s q flat step)
+
+pub attempt-in-step : (v : Vp) (s : PartitionState) (op : Op) (flat : Flat) → IsInStep v.limits s flat
+    → let did = does_all (answer_in v.limits v.number) (flat_after v.limits v.number) with_entries s (Some op) v flat (attempt (origin_of v) op) in IsInStep v.limits (state_after s did.served) did.words
+attempt-in-step v s op flat step = did-in-step v.limits v.number (Some op) s v (attempt (origin_of v) op) flat step
+
+-- and the journal gains the entries of the requests
+pub did-journal : (limits : Limits) (p : ℕ) (op : Option Op) (s : PartitionState) (v : Vp) (t : Tree Outcome) (flat : Flat)
+    → let did = does_all (answer_in limits p) (flat_after limits p) with_entries s op v flat t in did.words.journal ≡ flat.journal ++ joined did.served
+did-journal limits p op s v (Ends o) flat = sym (append-nil flat.journal)
+did-journal limits p op s v (Asks asked k) flat =
+    let x = answer_in limits p flat asked in
+    let did : Did Flat = does_all (answer_in limits p) (flat_after limits p) with_entries s op (saw op v (made asked x)) (flat_after limits p flat asked) (k x) in
+    did-journal limits p op s (saw op v (made asked x)) (k x) (flat_after limits p flat asked) ∙ ap (λ es. es ++ joined did.served) (journal-stays limits p flat asked)
+did-journal limits p op s v (Wants q k) flat =
+    let reply = answer s q in
+    let did : Did Flat = does_all (answer_in limits p) (flat_after limits p) with_entries (after s q) op (answered reply (asking op v)) (with_entries flat (block s q)) (k reply) in
+    did-journal limits p op (after s q) (answered reply (asking op v)) (k reply) (with_entries flat (block s q)) ∙ append_assoc flat.journal (block s q) (joined did.served)
+
+pub attempt-journal : (v : Vp) (s : PartitionState) (op : Op) (flat : Flat)
+    → let did = does_all (answer_in v.limits v.number) (flat_after v.limits v.number) with_entries s (Some op) v flat (attempt (origin_of v) op) in did.words.journal ≡ flat.journal ++ joined did.served
+attempt-journal v s op flat = did-journal v.limits v.number (Some op) s v (attempt (origin_of v) op) flat

@@ -19,11 +19,12 @@ use Rattle.vsm_core.specs.declared.operation.Op.{Op}
 use Rattle.vsm_core.specs.declared.operation.Op.TheVariants.{Set, Get, Load, Store, Exec, Spin, Hypercall, VtlCall, VtlReturn, Poll}
 use Rattle.vsm_core.specs.declared.operation.Op.TheVariants as ops
 use Rattle.vsm_core.specs.declared.note.Note.{Note}
+use Rattle.vsm_core.specs.declared.request.PartCall.{PartCall}
 use Rattle.vsm_core.specs.declared.request.Reply.{Reply}
 use Rattle.vsm_core.specs.Tree.{Tree, Ends, Asks, Wants, WordStep, Masking, Writing, Leaving, Posting, then_, asks_all, takes, reads}
 use Rattle.vsm_core.specs.Calls.{Row, Check, row_of, code_in, count_in, start_in, is_fast as is_fast_call, first_failed, form_checks}
 use Rattle.vsm_core.specs.Hypercalls.{input_value, input_address, output_address, input_size, output_size, has_output, fast_words, input_checks, input_refusal, place_checks, result_outcome}
-use Rattle.vsm_core.specs.RegisterCalls.{value_words, is_look, count_of, start_of, past_of, header_refusal, set_registers, slice_numbers, slice_output, got_slice}
+use Rattle.vsm_core.specs.RegisterCalls.{Setting, settings, value_words, look_in, write_in, set_slice, count_of, start_of, past_of, header_refusal, slice_numbers, slice_output, got_slice}
 use Rattle.vsm_core.specs.Reps.{first_word, words_between}
 use Rattle.vsm_core.specs.Targets.{target_level}
 use Rattle.vsm_core.specs.State.{State, operand, privilege_of}
@@ -38,8 +39,8 @@ use Rattle.vsm_core.specs.Switch.{may_call, may_return, may_enter, is_zero, is_f
 use Rattle.vsm_core.specs.Controllers.{Controllers, message_page, message_steps, post_steps, pending_steps, writes, rings, sint0_vector, has_none, vector_words, with_taken}
 use Rattle.vsm_core.specs.Messages.{message_words, flagged, is_free}
 use Rattle.vsm_core.specs.Outcomes.{Origin, Outcome, Refusal, origin_in, outcome_at, faulted, fills, loaded, passed, spun, note_of, held_outcome, denied_outcome, hit_outcome, register_note, set_outcome, get_outcome, eom_outcome}
-use Rattle.vsm_core.specs.Attempt.{attempt, by_access, begun, leaves, left_with, in_own_access, told_on, by_slot, posting, tells, refused, goal_of, returns, is_wanted, wanted_outcome, unwanted_outcome, polled_on, sending, polled, sends, eom_on, requests, left_for, hit_tells, hits_on, intercepted, is_write_hit, is_read_hit, set_tree, get_tree, behind_page_mask, puts_out, looked_by, looks, gets_by, by_input, reads_slice, reads_input, behind_output, by_memory, admitted, by_refusal, hypercall_tree}
-use Rattle.vsm_core.proofs.Bounds.{words-twelve, flagged-length, partition_row, level_row, get_row, set_row, each-row, past-inside, output-length}
+use Rattle.vsm_core.specs.Attempt.{attempt, by_access, begun, leaves, left_with, in_own_access, told_on, by_slot, posting, tells, refused, goal_of, returns, is_wanted, wanted_outcome, unwanted_outcome, polled_on, sending, polled, sends, eom_on, requests, left_for, hit_tells, hits_on, intercepted, is_write_hit, is_read_hit, set_tree, get_tree, behind_page_mask, puts_out, looked_by, gets_or_asks, gets_by, sets_or_asks, sets_by, by_input, reads_slice, reads_input, behind_output, by_memory, admitted, by_refusal, hypercall_tree}
+use Rattle.vsm_core.proofs.Bounds.{words-twelve, flagged-length, flush_row, flush_list_row, modify_row, partition_row, level_row, get_row, set_row, each-row, past-inside, output-length}
 use Rattle.vsm_core.proofs.Checks.{none-fails}
 use Rattle.vsm_core.specs.Sound.{Sound, IsOver}
 
@@ -373,11 +374,21 @@ module _ (limits : Limits) (number : ℕ) (state : State) (controllers : Control
   abbrev caller : Origin
   caller = origin_in limits number state controllers
 
-  requests-sound : (es : List Event) (code : ℕ) (words : List ℕ) → phase_of es ≡ Idle → Sound limits IsOver es (requests caller code words)
-  requests-sound es code words idle = (idle, λ reply. idle)
+  requests-sound : (es : List Event) (code : ℕ) (header elements : List ℕ) → phase_of es ≡ Idle → Sound limits IsOver es (requests caller code header elements)
+  requests-sound es code header elements idle = (idle, λ reply. idle)
 
-  left_for-sound : (es : List Event) (code : ℕ) (words : List ℕ) → IsIn (phase_of es) → Sound limits IsOver es (left_for caller code words)
-  left_for-sound es code words inside = (inside-ne limits number state controllers low es inside, λ x. requests-sound (made Leaving x ∷ es) code words refl)
+  left_for-sound : (es : List Event) (code : ℕ) (header elements : List ℕ) → IsIn (phase_of es) → Sound limits IsOver es (left_for caller code header elements)
+  left_for-sound es code header elements inside = (inside-ne limits number state controllers low es inside, λ x. requests-sound (made Leaving x ∷ es) code header elements refl)
+
+  sets_or-sound : (es : List Event) (target : Vtl) (given : List Setting) (call : Option PartCall) → IsIn (phase_of es) → Sound limits IsOver es (sets_or_asks caller target given call)
+  sets_or-sound es target given None inside = left-sound limits number state controllers low es (set_slice caller target given) inside
+  sets_or-sound es target given (Some call) inside = (inside-ne limits number state controllers low es inside, λ x. (refl, λ reply. refl))
+
+  sets_by-sound : (es : List Event) (header words : List ℕ) (refusal : Option HvStatus) → IsIn (phase_of es) → Sound limits IsOver es (sets_by caller header words refusal)
+  sets_by-sound es header words (Some status) inside = left-sound limits number state controllers low es (result_outcome caller state status (start_of caller)) inside
+  sets_by-sound es header words None inside =
+      let target = target_level state.active header in
+      sets_or-sound es target (settings words) (write_in state.active target (count_of caller) (settings words)) inside
 
   behind_page_mask-sound : (level : Vtl) (es : List Event) (kind : Access) (address generation : ℕ) (rest : Tree Outcome) → address / 4096 < limits.pages → IsIn (phase_of es) → ((fs : List Event) → IsIn (phase_of fs) → Sound limits IsOver fs rest) → Sound limits IsOver es (behind_page_mask level caller kind address generation rest)
   behind_page_mask-sound Zero es kind address generation rest there inside h = (
@@ -405,8 +416,9 @@ module _ (limits : Limits) (number : ℕ) (state : State) (controllers : Control
         let o : Outcome = result_outcome caller state reply.status reply.done in
         (idle, λ a. (refl, λ generation. behind_page_mask-sound state.active _ Write (output_address state) generation (puts_out caller words o) placed.there tt (λ fs inside. puts_out-sound fs words o (omega (arith, before)) inside)))
 
-    looks-sound : (es : List Event) → IsIn (phase_of es) → Sound limits IsOver es (looks caller)
-    looks-sound es inside = (inside-ne limits number state controllers low es inside, λ x. (refl, λ reply. looked_by-sound (made Leaving x ∷ es) reply refl))
+    gets_or-sound : (es : List Event) (target : Vtl) (found : List ℕ) (call : Option PartCall) → IsIn (phase_of es) → Sound limits IsOver es (puts_out caller (slice_output caller target found) (got_slice caller target found)) → Sound limits IsOver es (gets_or_asks caller target found call)
+    gets_or-sound es target found None inside h = h
+    gets_or-sound es target found (Some call) inside h = (inside-ne limits number state controllers low es inside, λ x. (refl, λ reply. looked_by-sound (made Leaving x ∷ es) reply refl))
 
     gets_by-sound : (es : List Event) (header words : List ℕ) (refusal : Option HvStatus) → IsIn (phase_of es) → Sound limits IsOver es (gets_by caller header words refusal)
     gets_by-sound es header words (Some status) inside = left-sound limits number state controllers low es (result_outcome caller state status (start_of caller)) inside
@@ -415,17 +427,17 @@ module _ (limits : Limits) (number : ℕ) (state : State) (controllers : Control
         let found : List ℕ = slice_numbers caller words in
         let long = output-length caller target words in
         let past = past-inside (start_of caller) (count_of caller) in
-        Sound-cond limits IsOver es (is_look (count_of caller) found) (looks caller) (puts_out caller (slice_output caller target found) (got_slice caller target found)) (λ _. looks-sound es inside)
+        gets_or-sound es target found (look_in state.active target (count_of caller) found) inside
         (puts_out-sound es (slice_output caller target found) (got_slice caller target found) (omega (arith, long, past, before)) inside)
 
   -- the words of the header and of the slice stand in the input's page
   abbrev IsReadable : Row → ℕ → Type 0
-  IsReadable row address = address % 4096 / 8 + row.header / 8 + first_word row.element (start_of caller) + words_between row.element (start_of caller) (past_of caller) ≤ 512
+  IsReadable row address = address % 4096 / 8 + row.header / 8 + first_word row.read (start_of caller) + words_between row.read (start_of caller) (past_of caller) ≤ 512
 
   reads_input-sound : (es : List Event) (row : Row) (address : ℕ) → address / 4096 < limits.pages → IsReadable row address → IsIn (phase_of es) → ((fs : List Event) (header words : List ℕ) → IsIn (phase_of fs) → Sound limits IsOver fs (by_input caller row.code header words)) → Sound limits IsOver es (reads_input caller row address)
   reads_input-sound es row address there few inside h =
       reads-sound limits IsOver es (address / 4096) (address % 4096 / 8) (row.header / 8) [] (reads_slice caller row address) there (omega (arith, few)) inside
-      (λ fs header within. reads-sound limits IsOver fs (address / 4096) (address % 4096 / 8 + row.header / 8 + first_word row.element (start_of caller)) (words_between row.element (start_of caller) (past_of caller)) [] (by_input caller row.code header) there few within (λ gs words deep. h gs header words deep))
+      (λ fs header within. reads-sound limits IsOver fs (address / 4096) (address % 4096 / 8 + row.header / 8 + first_word row.read (start_of caller)) (words_between row.read (start_of caller) (past_of caller)) [] (by_input caller row.code header) there few within (λ gs words deep. h gs header words deep))
 
   behind_output-sound : (es : List Event) (row : Row) (generation : ℕ) (rest : Tree Outcome) → (has_output row ≡ true → output_address state / 4096 < limits.pages) → IsIn (phase_of es) → ((fs : List Event) → IsIn (phase_of fs) → Sound limits IsOver fs rest) → Sound limits IsOver es (behind_output caller row generation rest)
   behind_output-sound es row generation rest there inside h =
@@ -446,8 +458,8 @@ module _ (limits : Limits) (number : ℕ) (state : State) (controllers : Control
   admitted-by : (es : List Event) (row : Row) (fast : Bool) → first_failed (form_checks row (input_value state) ++ cond fast [] (place_checks limits.pages row (input_value state) input output)) ≡ None → phase_of es ≡ Idle
       → (first_failed (form_checks row (input_value state)) ≡ None → IsPart limits.pages input (input_size row (input_value state)) → IsReadable row input)
       → (first_failed (form_checks row (input_value state)) ≡ None → (has_output row ≡ true → IsPart limits.pages output (output_size row (input_value state))) → (fs : List Event) (header words : List ℕ) → IsIn (phase_of fs) → Sound limits IsOver fs (by_input caller row.code header words))
-      → Sound limits IsOver es (cond fast (requests caller row.code (fast_words state)) (by_memory caller row input))
-  admitted-by es row true e idle readable does = requests-sound es row.code (fast_words state) idle
+      → Sound limits IsOver es (cond fast (requests caller row.code (fast_words state) []) (by_memory caller row input))
+  admitted-by es row true e idle readable does = requests-sound es row.code (fast_words state) [] idle
   admitted-by es row false e idle readable does =
       let parts = first_failed-parts (form_checks row (input_value state)) (place_checks limits.pages row (input_value state) input output) e in
       let part = input-part limits.pages row (input_value state) input output parts.1 in
@@ -463,14 +475,19 @@ module _ (limits : Limits) (number : ℕ) (state : State) (controllers : Control
       let fast : Bool = is_fast_call (input_value state) in
       let past = past-inside (start_of caller) (count_of caller) in
       each-row (IsAdmitted es) code
-      (λ e. admitted-by es partition_row fast e idle (λ form part. let aligned = part.aligned in let fits = part.fits in omega (arith, aligned, fits)) (λ form put fs header words inside. left_for-sound fs 0x000D header inside))
-      (λ e. admitted-by es level_row fast e idle (λ form part. let aligned = part.aligned in let fits = part.fits in omega (arith, aligned, fits)) (λ form put fs header words inside. left_for-sound fs 0x000F header inside))
+      (λ e. admitted-by es flush_row fast e idle (λ form part. let aligned = part.aligned in let fits = part.fits in omega (arith, aligned, fits)) (λ form put fs header words inside. left_for-sound fs 0x0002 header words inside))
+      (λ e. admitted-by es flush_list_row fast e idle (λ form part. let aligned = part.aligned in let fits = part.fits in omega (arith, aligned, fits)) (λ form put fs header words inside. left_for-sound fs 0x0003 header words inside))
+      (λ e. admitted-by es modify_row fast e idle
+      (λ form part. let before = started modify_row (input_value state) form refl in let aligned = part.aligned in let fits = part.fits in omega (arith, aligned, fits, before, past))
+      (λ form put fs header words inside. left_for-sound fs 0x000C header words inside))
+      (λ e. admitted-by es partition_row fast e idle (λ form part. let aligned = part.aligned in let fits = part.fits in omega (arith, aligned, fits)) (λ form put fs header words inside. left_for-sound fs 0x000D header words inside))
+      (λ e. admitted-by es level_row fast e idle (λ form part. let aligned = part.aligned in let fits = part.fits in omega (arith, aligned, fits)) (λ form put fs header words inside. left_for-sound fs 0x000F header words inside))
       (λ e. admitted-by es get_row fast e idle
       (λ form part. let before = started get_row (input_value state) form refl in let aligned = part.aligned in let fits = part.fits in omega (arith, aligned, fits, before, past))
       (λ form put fs header words inside. gets_by-sound (put refl) (started get_row (input_value state) form refl) fs header words (header_refusal caller header) inside))
       (λ e. admitted-by es set_row fast e idle
       (λ form part. let before = started set_row (input_value state) form refl in let aligned = part.aligned in let fits = part.fits in omega (arith, aligned, fits, before, past))
-      (λ form put fs header words inside. left-sound limits number state controllers low fs (set_registers caller header words) inside))
+      (λ form put fs header words inside. sets_by-sound fs header words (header_refusal caller header) inside))
 
   by_refusal-sound : (es : List Event) (row : Option Row) (refusal : Option HvStatus) → input_refusal limits.pages row (input_value state) input output ≡ refusal → IfSome row (IsAdmitted es) → phase_of es ≡ Idle → Sound limits IsOver es (by_refusal caller row refusal)
   by_refusal-sound es row (Some status) e h idle = idle

@@ -19,16 +19,17 @@ use Rattle.vsm_core.specs.declared.note.Note.{Note}
 use Rattle.vsm_core.specs.declared.operation.Op.{Op}
 use Rattle.vsm_core.specs.declared.operation.Op.TheVariants.{Set, Get, Load, Store, Exec, Spin, Jump, JumpNe, Hypercall, VtlCall, VtlReturn, Poll, Ack, Eoi}
 use Rattle.vsm_core.specs.declared.operation.Op.TheVariants as ops
+use Rattle.vsm_core.specs.declared.request.PartCall.{PartCall}
 use Rattle.vsm_core.specs.declared.request.Reply.{Reply}
 use Rattle.vsm_core.specs.Access.{Goal, Decision, Grants, Denies, Faults, access, start_fault}
 use Rattle.vsm_core.specs.Calls.{Row, row_of, code_in, is_fast}
 use Rattle.vsm_core.specs.Controllers.{Controllers, writes, message_page, post_steps, eom_steps, vector_words, with_taken}
 use Rattle.vsm_core.specs.Fills.{Cached}
-use Rattle.vsm_core.specs.Hypercalls.{input_value, input_address, output_address, has_output, fast_words, input_refusal, request_of, look_request, refused_call, replied, result_outcome}
+use Rattle.vsm_core.specs.Hypercalls.{input_value, input_address, output_address, has_output, fast_words, input_refusal, asked_of, request_of, refused_call, replied, result_outcome}
 use Rattle.vsm_core.specs.Outcomes.{Origin, Outcome, Refusal, faulted, plain, outcome_at, fills, loaded, passed, spun, set_outcome, get_outcome, jumped, note_of, register_note, held_outcome, denied_outcome, hit_outcome, ack_outcome, eoi_outcome, eom_outcome}
-use Rattle.vsm_core.specs.RegisterCalls.{count_of, start_of, past_of, header_refusal, value_words, is_look, set_registers, slice_numbers, slice_output, got_slice}
+use Rattle.vsm_core.specs.RegisterCalls.{Setting, settings, count_of, start_of, past_of, header_refusal, value_words, look_in, write_in, set_slice, slice_outcome, slice_numbers, slice_output, got_slice}
 use Rattle.vsm_core.specs.Registers.{is_legal, get as get_in}
-use Rattle.vsm_core.specs.Reps.{first_word, words_between}
+use Rattle.vsm_core.specs.Reps.{first_word, words_between, replied_end}
 use Rattle.vsm_core.specs.State.{State, get, gone_to, gone_on, may_name, word_of, privilege_of, operand}
 use Rattle.vsm_core.specs.Switch.{may_call, may_return, may_enter, called, returned, entered, is_zero, assist_page, restored_from, reason_index, rax_index, rcx_index, by_call, by_interrupt, entry_word}
 use Rattle.vsm_core.specs.Tree.{Tree, Ends, Asks, Wants, WordStep, Entering, Checking, Masking, Reading, Writing, Leaving, then_, asks_all, takes, reads}
@@ -209,13 +210,18 @@ abbrev pub behind_page_mask : Vtl → Origin → Access → (address generation 
 behind_page_mask Zero from kind address generation rest = Asks (Masking (address / 4096)) (by_page_mask from kind address generation rest)
 behind_page_mask One from kind address generation rest = rest
 
+-- what the reply to a call comes to; a slice of pages goes on as a rep call does
+abbrev pub served : Origin → ℕ → Reply → Outcome
+served from code reply =
+    if code == 0x000C then slice_outcome from from.state [] (replied_end reply.status reply.done (count_of from)) else replied from reply
+
 -- the call is served once its input is known
-abbrev pub requests : Origin → ℕ → List ℕ → Tree Outcome
-requests from code words = Wants (request_of from code words) (λ reply. Ends (replied from reply))
+abbrev pub requests : Origin → ℕ → (header elements : List ℕ) → Tree Outcome
+requests from code header elements = Wants (request_of from code header elements) (λ reply. Ends (served from code reply))
 
 -- the access in which the input was read is left before
-abbrev pub left_for : Origin → ℕ → List ℕ → Tree Outcome
-left_for from code words = Asks Leaving (λ _. requests from code words)
+abbrev pub left_for : Origin → ℕ → (header elements : List ℕ) → Tree Outcome
+left_for from code header elements = Asks Leaving (λ _. requests from code header elements)
 
 -- these words go to the output, from the place of the slice's first element on, and then the access is left
 abbrev pub puts_out : Origin → List ℕ → Outcome → Tree Outcome
@@ -228,30 +234,40 @@ looked_by from reply =
     in_access_from (λ generation. behind_page_mask from.state.active from Write (output_address from.state) generation
     (puts_out from (value_words reply.value) (result_outcome from from.state reply.status reply.done)))
 
--- a register of the partition is asked for once the access in which the input was read is left
-abbrev pub looks : Origin → Tree Outcome
-looks from = Asks Leaving (λ _. Wants (look_request from) (looked_by from))
+-- a call that gets these registers of a level. A register of the partition is asked for once the access in which the input was read is left
+abbrev pub gets_or_asks : Origin → Vtl → List ℕ → Option PartCall → Tree Outcome
+gets_or_asks from target numbers None = puts_out from (slice_output from target numbers) (got_slice from target numbers)
+gets_or_asks from target numbers (Some call) = Asks Leaving (λ _. Wants (asked_of from call) (looked_by from))
 
--- a call that gets these registers of a level
 abbrev pub gets_from : Origin → Vtl → List ℕ → Tree Outcome
-gets_from from target numbers =
-    if is_look (count_of from) numbers then looks from
-    else puts_out from (slice_output from target numbers) (got_slice from target numbers)
+gets_from from target numbers = gets_or_asks from target numbers (look_in from.state.active target (count_of from) numbers)
 
 abbrev pub gets_by : Origin → List ℕ → List ℕ → Option HvStatus → Tree Outcome
 gets_by from header words None = gets_from from (target_level from.state.active header) (slice_numbers from words)
 gets_by from header words (Some status) = left_with (result_outcome from from.state status (start_of from))
 
+-- a call that sets these registers of a level; the partition's configuration is written by the partition
+abbrev pub sets_or_asks : Origin → Vtl → List Setting → Option PartCall → Tree Outcome
+sets_or_asks from target settings None = left_with (set_slice from target settings)
+sets_or_asks from target settings (Some call) = Asks Leaving (λ _. Wants (asked_of from call) (λ reply. Ends (replied from reply)))
+
+abbrev pub sets_from : Origin → Vtl → List Setting → Tree Outcome
+sets_from from target settings = sets_or_asks from target settings (write_in from.state.active target (count_of from) settings)
+
+abbrev pub sets_by : Origin → List ℕ → List ℕ → Option HvStatus → Tree Outcome
+sets_by from header words None = sets_from from (target_level from.state.active header) (settings words)
+sets_by from header words (Some status) = left_with (result_outcome from from.state status (start_of from))
+
 -- the input of a call was read: the words of its header and those of its slice
 abbrev pub by_input : Origin → ℕ → List ℕ → List ℕ → Tree Outcome
 by_input from code header words =
     if code == 0x0050 then gets_by from header words (header_refusal from header)
-    else (if code == 0x0051 then left_with (set_registers from header words) else left_for from code header)
+    else (if code == 0x0051 then sets_by from header words (header_refusal from header) else left_for from code header words)
 
 -- the words of the slice are read
 abbrev pub reads_slice : Origin → Row → ℕ → List ℕ → Tree Outcome
 reads_slice from row address header =
-    reads (address / 4096) (address % 4096 / 8 + row.header / 8 + first_word row.element (start_of from)) (words_between row.element (start_of from) (past_of from)) []
+    reads (address / 4096) (address % 4096 / 8 + row.header / 8 + first_word row.read (start_of from)) (words_between row.read (start_of from) (past_of from)) []
     (by_input from row.code header)
 
 -- the words of the header are read before
@@ -270,7 +286,7 @@ by_memory from row address =
 
 abbrev pub admitted : Origin → Row → Tree Outcome
 admitted from row =
-    if is_fast (input_value from.state) then requests from row.code (fast_words from.state) else by_memory from row (input_address from.state)
+    if is_fast (input_value from.state) then requests from row.code (fast_words from.state) [] else by_memory from row (input_address from.state)
 
 abbrev pub by_refusal : Origin → Option Row → Option HvStatus → Tree Outcome
 by_refusal from row (Some status) = Ends (refused_call from status)

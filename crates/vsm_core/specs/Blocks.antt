@@ -1,8 +1,9 @@
 -- A journal that is whole: the entries of one request after those of another, and each request's entries of one of a few forms.
-use Rattle.std.specs.Prelude.{◌≡◌, ℕ, ◌+◌, ◌%◌, ◌==◌, ◌||◌, ◌&&◌, Bool, true, false, not, List, [], ◌∷◌, ◌++◌, map}
+use Rattle.std.specs.Prelude.{◌≡◌, ℕ, ◌+◌, ◌||◌, ◌&&◌, Bool, true, false, not, List, [], ◌∷◌, ◌++◌, map}
 use Rattle.std.specs.List.{range_with_len, fold}
 use Rattle.vsm_base.specs.declared.places.Page.{Page}
 use Rattle.vsm_base.specs.declared.places.VpIndex.{VpIndex}
+use Rattle.vsm_core.specs.Status.{protects}
 use Rattle.vsm_core.specs.declared.journal.Entry.{Entry}
 use Rattle.vsm_core.specs.declared.journal.Entry.TheVariants.{Config, Ask, Turn, Clear, Report}
 
@@ -18,10 +19,6 @@ round vps asks k by = map ask asks ++ Turn k by ∷ (map clear (range_with_len 0
 
 abbrev pub IsRound : ℕ → ℕ → List Entry → Type 0
 IsRound vps k es = (asks : List (Page × ℕ)) × (by : VpIndex) × (es ≡ round vps asks k by)
-
--- bit 0 of a configuration turns the protection of pages on
-abbrev pub protects : ℕ → Bool
-protects config = config % 2 == 1
 
 -- a round follows the configuration that first turns it on
 abbrev pub IsConfigRest : Bool → ℕ → ℕ → List Entry → Type 0

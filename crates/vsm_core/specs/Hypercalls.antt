@@ -6,10 +6,10 @@ use Rattle.vsm_base.specs.declared.status.HvStatus.{HvStatus}
 use Rattle.vsm_base.specs.declared.status.TheConstants.HvStatus as statuses
 use Rattle.vsm_core.specs.declared.mark.What.TheVariants.{Reply as Result}
 use Rattle.vsm_core.specs.declared.request.PartCall.{PartCall}
-use Rattle.vsm_core.specs.declared.request.PartCall.TheVariants.{EnablePartition, EnableVp, ReadStatus}
+use Rattle.vsm_core.specs.declared.request.PartCall.TheVariants.{EnablePartition, EnableVp, Modify, Flush}
 use Rattle.vsm_core.specs.declared.request.Reply.{Reply}
 use Rattle.vsm_core.specs.declared.request.Request.{Request}
-use Rattle.vsm_core.specs.Calls.{Row, Check, check, is_fast, count_in, form_checks, first_failed, result_value}
+use Rattle.vsm_core.specs.Calls.{Row, Check, check, is_fast, count_in, start_in, form_checks, first_failed, result_value}
 use Rattle.vsm_core.specs.Contexts.{with_context}
 use Rattle.vsm_core.specs.Fills.{Cached}
 use Rattle.vsm_core.specs.Outcomes.{Origin, Outcome, outcome_at}
@@ -57,16 +57,19 @@ abbrev pub input_refusal : ℕ → Option Row → ℕ → ℕ → ℕ → Option
 input_refusal pages None value address output = Some statuses.INVALID_HYPERCALL_CODE
 input_refusal pages (Some row) value address output = first_failed (input_checks pages row value address output)
 
--- what a call asks of the partition, by its code and the words of its input
-abbrev pub call_of : ℕ → List ℕ → PartCall
-call_of code words = if code == 0x000D then EnablePartition words else EnableVp words
+-- what a call asks of the partition, by its code, the words of its header and of its slice, and of its elements the slice's first and how many there are
+abbrev pub call_of : (code : ℕ) → (header elements : List ℕ) → (start count : ℕ) → PartCall
+call_of code header elements start count =
+    if code == 0x000C then Modify header (record { items = elements }) start count
+    else (if code == 0x000D then EnablePartition header
+    else (if code == 0x000F then EnableVp header else Flush count))
 
-abbrev pub request_of : Origin → ℕ → List ℕ → Request
-request_of from code words = record { by = record { 0 = from.number }; level = from.state.active; call = call_of code words }
+-- the processor asks this of the partition
+abbrev pub asked_of : Origin → PartCall → Request
+asked_of from call = record { by = record { 0 = from.number }; level = from.state.active; call = call }
 
--- the register of the partition that is read
-abbrev pub look_request : Origin → Request
-look_request from = record { by = record { 0 = from.number }; level = from.state.active; call = ReadStatus }
+abbrev pub request_of : Origin → ℕ → (header elements : List ℕ) → Request
+request_of from code header elements = asked_of from (call_of code header elements (start_in (input_value from.state)) (count_in (input_value from.state)))
 
 -- a call's result goes to RAX, and the program goes on
 abbrev pub with_result : State → ℕ → State

@@ -1,5 +1,5 @@
 -- What attempts leave as it was.
-use Rattle.std.specs.Prelude.{◌≡◌, ◌≢◌, ℕ, Some, List, [], ◌∷◌}
+use Rattle.std.specs.Prelude.{◌≡◌, ◌≢◌, ℕ, ◌+◌, Some, List, [], ◌∷◌, length, take}
 use Rattle.vsm_base.specs.declared.name.Name.{Name}
 use Rattle.vsm_base.specs.declared.name.Name.TheVariants as names
 use Rattle.vsm_base.specs.declared.places.Vtl.{Vtl}
@@ -7,12 +7,21 @@ use Rattle.vsm_base.specs.declared.places.Vtl.TheVariants.{Zero, One}
 use Rattle.vsm_core.specs.declared.operation.Program.{Program}
 use Rattle.vsm_core.specs.declared.partition_state.PartitionState.{PartitionState}
 use Rattle.vsm_core.specs.declared.request.Reply.{Reply}
+use Rattle.vsm_core.specs.declared.request.Request.{Request}
+use Rattle.vsm_core.specs.declared.request.PartCall.{PartCall}
+use Rattle.vsm_core.specs.declared.request.PartCall.TheVariants.{Modify}
+use Rattle.vsm_core.specs.declared.journal.Entry.TheVariants.{Refuse}
+use Rattle.vsm_base.specs.declared.places.Page.{Page}
 use Rattle.vsm_core.specs.declared.operation.Op.TheVariants.{Hypercall}
+use Rattle.vsm_core.specs.Blocks.{round}
 use Rattle.vsm_core.specs.Calls.{code_in}
 use Rattle.vsm_core.specs.Hypercalls.{input_value}
 use Rattle.vsm_core.specs.Outcomes.{Origin, Outcome}
 use Rattle.vsm_core.specs.Processor.{Vp, attempted, operation_at}
+use Rattle.vsm_core.specs.Protection.{asks_for, map_flags, page_refusals}
 use Rattle.vsm_core.specs.Registers.{get, private_of}
+use Rattle.vsm_core.specs.Reps.{acting}
+use Rattle.vsm_core.specs.Served.{answer, after, block}
 use Rattle.vsm_core.specs.State.{State}
 use Rattle.vsm_core.specs.Tree.{Tree, Ends, Asks, Wants}
 use Rattle.vsm_core.specs.Whole.{Flat}
@@ -53,3 +62,19 @@ abbrev pub IsAway : Vtl → Program → Vp → List (PartitionState × Flat) →
 IsAway level program v [] = Unit {0}
 IsAway level program v (e ∷ es) =
     (v.state.active ≡ other_level level) × ((attempted program v e.0 e.1).vp.state.enabled ≡ v.state.enabled) × SetsNone level program v × IsAway level program (attempted program v e.0 e.1).vp es
+
+-- a refused request changes nothing, and the journal says why
+pub record RefusesAll (s : PartitionState) (r : Request) : Type 0 where
+  pub after : after s r ≡ s
+  pub block : block s r ≡ Refuse r.by (answer s r).status ∷ []
+
+-- the asks of a call for masks: those of its pages before the first that isn't there
+abbrev pub asks_of : PartitionState → PartCall → List (Page × ℕ)
+asks_of s (Modify header pages start total) = asks_for (map_flags header) (take (acting (page_refusals s.pages pages.items)) pages.items)
+asks_of s _ = []
+
+-- or it is refused at a page, and those before it got their masks by a round
+pub record RefusesRest (s : PartitionState) (r : Request) : Type 0 where
+  pub some : asks_of s r.call ≢ []
+  pub after : after s r ≡ record s { rounds = s.rounds + 1 }
+  pub block : block s r ≡ round (length s.vps) (asks_of s r.call) (s.rounds + 1) r.by

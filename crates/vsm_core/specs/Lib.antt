@@ -5,6 +5,7 @@ pub mod Blocks
 pub mod Calls
 pub mod Contexts
 pub mod Controllers
+pub mod Entries
 pub mod Fills
 pub mod Hypercalls
 pub mod Journal
@@ -13,6 +14,7 @@ pub mod Messages
 pub mod Outcomes
 pub mod Partition
 pub mod Processor
+pub mod Protection
 pub mod RegisterCalls
 pub mod Registers
 pub mod Reps

@@ -2,6 +2,7 @@
 use Rattle.std.specs.Prelude.{ℕ, ◌/◌, ◌%◌, ◌^◌, ◌==◌, ◌&&◌, Bool, false, not, if◌then◌else◌, nat_lt, nat_le, None, List, [], ◌∷◌, length, map, slice_index}
 use Rattle.std.specs.List.{list_any, range_with_len}
 use Rattle.std.proofs.Common.{get_or}
+use Rattle.vsm_base.specs.declared.places.Limits.{Limits}
 use Rattle.vsm_base.specs.declared.places.Vtl.{Vtl}
 use Rattle.vsm_base.specs.declared.status.TheConstants.HvStatus as statuses
 use Rattle.vsm_core.specs.Calls.{Check, check}
@@ -14,8 +15,8 @@ use Rattle.vsm_core.specs.declared.partition_state.Standing.{Standing}
 abbrev pub opening_standing : ℕ → ℕ → Standing
 opening_standing started vp = record { one = false; started = nat_lt vp started; waiting = None }
 
-abbrev pub opening_partition : ℕ → ℕ → PartitionState
-opening_partition vps started = record { enabled = false; vps = map (opening_standing started) (range_with_len 0 vps) }
+abbrev pub opening_partition : Limits → ℕ → PartitionState
+opening_partition limits started = record { pages = limits.pages; enabled = false; config = 0; rounds = 0; vps = map (opening_standing started) (range_with_len 0 limits.vps) }
 
 -- what is known of a processor that there is, and of one that there isn't
 abbrev pub nobody : Standing

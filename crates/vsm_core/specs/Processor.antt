@@ -27,7 +27,7 @@ use Rattle.vsm_core.specs.Tree.{Tree, Ends, Asks, Wants, WordStep, followed}
 use Rattle.vsm_core.specs.Attempt.{attempt, most_steps_of}
 use Rattle.vsm_core.specs.Controllers.{Controllers, opening_controllers}
 use Rattle.vsm_core.specs.Outcomes.{Origin, Outcome, faulted, origin_in}
-use Rattle.vsm_core.specs.Whole.{Flat, answer_in, flat_after}
+use Rattle.vsm_core.specs.Whole.{Flat, answer_in, flat_after, with_entries}
 
 -- a processor: what it was made with, its state, what its interrupt controllers hold, the operation that it keeps on with, what it has left, and its ending.
 -- The events of the attempt under way are those seen from `first` on. The events from `part` to `first` are of a spin's
@@ -224,19 +224,20 @@ pub record Did (W : Type 0) : Type 0 where
 abbrev pub served_first : {W : Type 0} → Request → List Entry → Did W → Did W
 served_first q block did = record { vp = did.vp; words = did.words; served = (q, block) ∷ did.served }
 
--- over words that answer and change so: what is left of an attempt is done at once, each step by the words as they stand,
--- and each request is served by the partition as the requests before it leave it
-module _ {W : Type 0} (answers : W → WordStep → ℕ) (changes : W → WordStep → W) where
+-- over words that answer and change so by steps, and so by the entries of a request: what is left of an attempt is done at
+-- once, each step by the words as they stand, and each request is served whole by the partition as the requests before it
+-- leave it
+module _ {W : Type 0} (answers : W → WordStep → ℕ) (changes : W → WordStep → W) (adds : W → List Entry → W) where
   abbrev pub does_all : PartitionState → Option Op → Vp → W → Tree Outcome → Did W
   does_all s op v words (Ends o) = record { vp = settled (Ends o) v; words = words; served = [] }
   does_all s op v words (Asks step k) =
       does_all s op (saw op v (made step (answers words step))) (changes words step) (k (answers words step))
-  does_all s op v words (Wants q k) = served_first q (block s q) (does_all (after s q) op (answered (answer s q) (asking op v)) words (k (answer s q)))
+  does_all s op v words (Wants q k) = served_first q (block s q) (does_all (after s q) op (answered (answer s q) (asking op v)) (adds words (block s q)) (k (answer s q)))
 
 -- the whole attempt of the operation where its program stands, at once
 unfoldable pub attempted : Program → Vp → PartitionState → Flat → Did Flat
 attempted program v s flat =
-    does_all (answer_in v.limits v.number) (flat_after v.limits v.number) s (operation_at program v.state) v flat (tree_of (origin_of v) (operation_at program v.state))
+    does_all (answer_in v.limits v.number) (flat_after v.limits v.number) with_entries s (operation_at program v.state) v flat (tree_of (origin_of v) (operation_at program v.state))
 
 -- the marks that a processor has left since it was so
 abbrev pub new_marks : Vp → Vp → List Mark

@@ -1,6 +1,5 @@
 -- The calls that get and set registers: what they name, what refuses them, and what each element does (TLFS, HvCallGetVpRegisters and HvCallSetVpRegisters; the order of the checks is this project's own).
 use Rattle.std.specs.Prelude.{ℕ, ◌+◌, ◌*◌, ◌/◌, ◌-◌, ◌%◌, ◌^◌, ◌==◌, ◌&&◌, Bool, true, false, not, nat_le, Option, Some, None, is_none, List, [], ◌∷◌, ◌++◌, map, find, flat_map, fold, take, drop}
-use Rattle.std.specs.List.{list_any}
 use Rattle.vsm_base.specs.declared.name.Name.{Name}
 use Rattle.vsm_base.specs.declared.name.Name.TheVariants as names
 use Rattle.vsm_base.specs.Names.{numbered}
@@ -10,10 +9,12 @@ use Rattle.vsm_base.specs.declared.status.HvStatus.{HvStatus}
 use Rattle.vsm_base.specs.declared.status.TheConstants.HvStatus as statuses
 use Rattle.vsm_core.specs.declared.mark.What.TheVariants.{Part}
 use Rattle.vsm_core.specs.declared.register.CallRegister.{CallRegister}
-use Rattle.vsm_core.specs.declared.register.CallRegister.TheVariants.{Kept, EndOfMessage, CodePageOffsets, VpStatus, PartitionStatus, Capabilities}
+use Rattle.vsm_core.specs.declared.register.CallRegister.TheVariants.{Kept, EndOfMessage, CodePageOffsets, VpStatus, PartitionStatus, Capabilities, PartitionConfig}
+use Rattle.vsm_core.specs.declared.request.PartCall.{PartCall}
+use Rattle.vsm_core.specs.declared.request.PartCall.TheVariants.{ReadStatus, ReadConfig, WriteConfig}
 use Rattle.vsm_core.specs.Calls.{Check, check, first_failed, count_in, start_in}
 use Rattle.vsm_core.specs.Fills.{Cached}
-use Rattle.vsm_core.specs.Hypercalls.{input_value, result_outcome, result_with}
+use Rattle.vsm_core.specs.Hypercalls.{input_value, result_with}
 use Rattle.vsm_core.specs.Outcomes.{Origin, Outcome, empties, outcome_at}
 use Rattle.vsm_core.specs.Partition.{named, index_of, is_other_partition}
 use Rattle.vsm_core.specs.Registers.{is_legal, get as get_in, put as put_in}
@@ -31,9 +32,10 @@ own_number CodePageOffsets = 0x000D_0002
 own_number VpStatus = 0x000D_0003
 own_number PartitionStatus = 0x000D_0004
 own_number Capabilities = 0x000D_0006
+own_number PartitionConfig = 0x000D_0007
 
 unfoldable pub own_registers : List CallRegister
-own_registers = EndOfMessage ∷ CodePageOffsets ∷ VpStatus ∷ PartitionStatus ∷ Capabilities ∷ []
+own_registers = EndOfMessage ∷ CodePageOffsets ∷ VpStatus ∷ PartitionStatus ∷ Capabilities ∷ PartitionConfig ∷ []
 
 abbrev pub kept_or : Option Name → Option CallRegister → Option CallRegister
 kept_or (Some name) other = Some (Kept name)
@@ -48,10 +50,12 @@ abbrev pub is_level_one : CallRegister → Bool
 is_level_one (Kept names.CrInterceptControl) = true
 is_level_one (Kept names.CrInterceptCr0Mask) = true
 is_level_one (Kept names.CrInterceptCr4Mask) = true
+is_level_one PartitionConfig = true
 is_level_one _ = false
 
 abbrev pub is_partitions : CallRegister → Bool
 is_partitions PartitionStatus = true
+is_partitions PartitionConfig = true
 is_partitions _ = false
 
 abbrev pub is_end_of_message : CallRegister → Bool
@@ -179,9 +183,29 @@ value_words value = value % 2 ^ 64 ∷ value / 2 ^ 64 ∷ []
 abbrev pub got_words : State → Vtl → List ℕ → List ℕ
 got_words state target numbers = flat_map (λ number. value_words (value_named state target (register_of number))) numbers
 
--- the register that a call of one element gets is the partition's
-abbrev pub is_look : ℕ → List ℕ → Bool
-is_look count numbers = (count == 1) && list_any (λ number. names_one is_partitions (register_of number)) numbers
+-- a register that the partition alone knows is asked for there, and the partition's configuration is written there
+abbrev pub read_call : Option CallRegister → Option PartCall
+read_call (Some PartitionStatus) = Some ReadStatus
+read_call (Some PartitionConfig) = Some ReadConfig
+read_call _ = None
+
+abbrev pub write_call : Option CallRegister → ℕ → Option PartCall
+write_call (Some PartitionConfig) value = Some (WriteConfig value)
+write_call _ value = None
+
+-- unless something refuses the element
+abbrev pub unless_refused : Option HvStatus → Option PartCall → Option PartCall
+unless_refused None call = call
+unless_refused (Some status) call = None
+
+-- what a slice asks of the partition: a call that names a register of the partition has no other element
+abbrev pub look_in : (caller target : Vtl) → ℕ → List ℕ → Option PartCall
+look_in caller target count [] = None
+look_in caller target count (number ∷ numbers) = unless_refused (get_refusal caller target count number) (read_call (register_of number))
+
+abbrev pub write_in : (caller target : Vtl) → ℕ → List Setting → Option PartCall
+write_in caller target count [] = None
+write_in caller target count (s ∷ settings) = unless_refused (set_refusal caller target count s) (write_call (register_of s.number) s.value)
 
 -- a call goes on at another element by the same operation: the input value tells where
 abbrev pub part_outcome : Origin → State → List Cached → ℕ → Outcome
@@ -224,14 +248,6 @@ set_slice from target settings =
     (all_set target from.state (take (acting (set_refusals from target settings)) settings))
     (all_emptied target (take (acting (set_refusals from target settings)) settings))
     (slice_end from (set_refusals from target settings))
-
--- a call that sets registers, whose header and whose slice have these words
-abbrev pub set_by : Origin → List ℕ → List ℕ → Option HvStatus → Outcome
-set_by from header words None = set_slice from (target_level from.state.active header) (settings words)
-set_by from header words (Some status) = result_outcome from from.state status (start_of from)
-
-abbrev pub set_registers : Origin → List ℕ → List ℕ → Outcome
-set_registers from header words = set_by from header words (header_refusal from header)
 
 -- the numbers of a slice of a call that gets registers, what it puts out for those before the first that is refused, and its end
 abbrev pub slice_numbers : Origin → List ℕ → List ℕ

@@ -1,5 +1,5 @@
 -- Rep calls: the slice of a call's elements that one attempt takes, and what comes of it (TLFS, Hypercall Interface, Rep Hypercalls; that a slice has at most eight elements is this project's own).
-use Rattle.std.specs.Prelude.{ℕ, suc, ◌+◌, ◌*◌, ◌/◌, ◌-◌, ◌%◌, ◌^◌, if◌then◌else◌, nat_lt, Option, Some, None, List, [], ◌∷◌}
+use Rattle.std.specs.Prelude.{ℕ, suc, ◌+◌, ◌*◌, ◌/◌, ◌-◌, ◌%◌, ◌^◌, ◌==◌, if◌then◌else◌, nat_lt, Option, Some, None, List, [], ◌∷◌}
 use Rattle.vsm_base.specs.declared.status.HvStatus.{HvStatus}
 
 -- where the slice ends that begins at this element of so many
@@ -39,6 +39,10 @@ unrefused_end next count = if nat_lt next count then GoesOn next else Complete n
 abbrev pub rep_end : (start count acted : ℕ) → Option HvStatus → RepEnd
 rep_end start count acted (Some status) = Refused status (start + acted)
 rep_end start count acted None = unrefused_end (start + acted) count
+
+-- by what is replied to a slice: a status that isn't success refuses its call at the element that isn't done
+abbrev pub replied_end : HvStatus → (done count : ℕ) → RepEnd
+replied_end status done count = if status.0 == 0 then unrefused_end done count else Refused status done
 
 -- an input value with this start index; the bits above the index must be zero
 abbrev pub with_start : (value start : ℕ) → ℕ

@@ -1,19 +1,23 @@
 -- How the partition serves a request: the entries that it adds to the journal, its reply, and what it knows then.
-use Rattle.std.specs.Prelude.{◌≡◌, ℕ, ◌==◌, Bool, true, if◌then◌else◌, Option, Some, None, List, [], ◌∷◌, ◌++◌, drop, slice_set}
+use Rattle.std.specs.Prelude.{◌≡◌, ℕ, ◌+◌, ◌==◌, ◌&&◌, Bool, true, not, if◌then◌else◌, Option, Some, None, List, [], ◌∷◌, ◌++◌, length, drop, take, slice_set}
+use Rattle.vsm_base.specs.declared.places.Page.{Page}
 use Rattle.vsm_base.specs.declared.places.VpIndex.{VpIndex}
 use Rattle.vsm_base.specs.declared.places.Vtl.{Vtl}
 use Rattle.vsm_base.specs.declared.places.Vtl.TheVariants.{One}
 use Rattle.vsm_base.specs.declared.status.HvStatus.{HvStatus}
 use Rattle.vsm_base.specs.declared.status.TheConstants.HvStatus as statuses
+use Rattle.vsm_core.specs.Blocks.{round}
 use Rattle.vsm_core.specs.Calls.{first_failed}
 use Rattle.vsm_core.specs.Partition.{standing, named, index_of, enable_partition_checks, enable_vp_checks}
-use Rattle.vsm_core.specs.Status.{partition_status}
+use Rattle.vsm_core.specs.Protection.{map_flags, modify_checks, page_refusals, config_checks, asks_for, asks_for_all}
+use Rattle.vsm_core.specs.Reps.{acting, refusing}
+use Rattle.vsm_core.specs.Status.{partition_status, protects, default_mask}
 use Rattle.vsm_core.specs.declared.journal.Entry.{Entry}
 use Rattle.vsm_core.specs.declared.journal.Entry.TheVariants as entries
 use Rattle.vsm_core.specs.declared.partition_state.PartitionState.{PartitionState}
 use Rattle.vsm_core.specs.declared.partition_state.Standing.{Standing}
 use Rattle.vsm_core.specs.declared.request.PartCall.{PartCall}
-use Rattle.vsm_core.specs.declared.request.PartCall.TheVariants.{EnablePartition, EnableVp, ReadStatus}
+use Rattle.vsm_core.specs.declared.request.PartCall.TheVariants.{EnablePartition, EnableVp, Modify, Flush, ReadStatus, ReadConfig, WriteConfig}
 use Rattle.vsm_core.specs.declared.request.Reply.{Reply}
 use Rattle.vsm_core.specs.declared.request.Request.{Request}
 
@@ -23,18 +27,18 @@ pub record Service : Type 0 where
   pub reply : Reply
   pub after : PartitionState
 
--- it is refused: nothing changes, and the journal says why
-abbrev pub refused : PartitionState → VpIndex → HvStatus → Service
-refused s by status = record {
+-- it is refused at the element of this index: nothing changes, and the journal says why
+abbrev pub refused : PartitionState → VpIndex → (done : ℕ) → HvStatus → Service
+refused s by done status = record {
   block = entries.Refuse by status ∷ [];
-  reply = record { status = status; done = 0; value = 0; context = None };
+  reply = record { status = status; done = done; value = 0; context = None };
   after = s;
 }
 
 -- the first check that fails refuses it
-abbrev pub judged : PartitionState → VpIndex → Option HvStatus → Service → Service
-judged s by None fine = fine
-judged s by (Some status) fine = refused s by status
+abbrev pub judged : PartitionState → VpIndex → (done : ℕ) → Option HvStatus → Service → Service
+judged s by done None fine = fine
+judged s by done (Some status) fine = refused s by done status
 
 abbrev pub enable_partition : PartitionState → VpIndex → Service
 enable_partition s by = record {
@@ -54,21 +58,54 @@ enable_vp s by vp context = record {
   after = record s { vps = slice_set s.vps vp (leveled (vp == by.0) (standing s vp) context) };
 }
 
--- a register of the partition is read, and nothing changes
-abbrev pub look : PartitionState → VpIndex → Service
-look s by = record {
+-- a register of the partition that has this value is read, and nothing changes
+abbrev pub look : PartitionState → VpIndex → ℕ → Service
+look s by value = record {
   block = entries.Look by ∷ [];
-  reply = record { status = statuses.SUCCESS; done = 1; value = partition_status s.enabled; context = None };
+  reply = record { status = statuses.SUCCESS; done = 1; value = value; context = None };
   after = s;
 }
 
+-- a round with these asks follows these entries, and then comes the reply
+abbrev pub with_round : PartitionState → VpIndex → List Entry → List (Page × ℕ) → HvStatus → (done : ℕ) → Service
+with_round s by before asks status done = record {
+  block = before ++ round (length s.vps) asks (s.rounds + 1) by;
+  reply = record { status = status; done = done; value = 0; context = None };
+  after = record s { rounds = s.rounds + 1 };
+}
+
+-- a slice of pages from this element on, of which so many are there, and what refuses the one behind them, if there is one: the pages before it get their mask by a round, and where there are none the slice is refused
+abbrev pub modify_some : PartitionState → VpIndex → (mask : ℕ) → List ℕ → (start acted : ℕ) → Option HvStatus → Service
+modify_some s by mask pages start acted None = with_round s by [] (asks_for mask (take acted pages)) statuses.SUCCESS (start + acted)
+modify_some s by mask pages start acted (Some status) =
+    if acted == 0 then refused s by start status
+    else with_round s by [] (asks_for mask (take acted pages)) status (start + acted)
+
+abbrev pub modify : PartitionState → VpIndex → (mask : ℕ) → List ℕ → (start : ℕ) → Service
+modify s by mask pages start = modify_some s by mask pages start (acting (page_refusals s.pages pages)) (refusing (page_refusals s.pages pages))
+
+-- the configuration is written; where that turns protection on, a round gives every page its mask
+abbrev pub write_config : PartitionState → VpIndex → ℕ → Service
+write_config s by value =
+    if not (protects s.config) && protects value
+    then with_round (record s { config = value }) by (entries.Config by value ∷ []) (asks_for_all (default_mask value) s.pages) statuses.SUCCESS 1
+    else record {
+      block = entries.Config by value ∷ [];
+      reply = record { status = statuses.SUCCESS; done = 1; value = 0; context = None };
+      after = record s { config = value };
+    }
+
 -- a call that isn't built yet is one that there isn't
 abbrev pub serve_call : PartitionState → VpIndex → Vtl → PartCall → Service
-serve_call s by level (EnablePartition words) = judged s by (first_failed (enable_partition_checks s words)) (enable_partition s by)
+serve_call s by level (EnablePartition words) = judged s by 0 (first_failed (enable_partition_checks s words)) (enable_partition s by)
 serve_call s by level (EnableVp words) =
-    judged s by (first_failed (enable_vp_checks s by.0 level (named by.0 (index_of words)) words (drop 2 words))) (enable_vp s by (named by.0 (index_of words)) (drop 2 words))
-serve_call s by level ReadStatus = look s by
-serve_call s by level _ = refused s by statuses.INVALID_HYPERCALL_CODE
+    judged s by 0 (first_failed (enable_vp_checks s by.0 level (named by.0 (index_of words)) words (drop 2 words))) (enable_vp s by (named by.0 (index_of words)) (drop 2 words))
+serve_call s by level (Modify header pages start total) = judged s by start (first_failed (modify_checks s level header)) (modify s by (map_flags header) pages.items start)
+serve_call s by level (Flush total) = with_round s by [] [] statuses.SUCCESS total
+serve_call s by level ReadStatus = look s by (partition_status s.enabled)
+serve_call s by level ReadConfig = look s by s.config
+serve_call s by level (WriteConfig value) = judged s by 0 (first_failed (config_checks s.config value)) (write_config s by value)
+serve_call s by level _ = refused s by 0 statuses.INVALID_HYPERCALL_CODE
 
 abbrev pub serve : PartitionState → Request → Service
 serve s r = serve_call s r.by r.level r.call

@@ -1,5 +1,5 @@
 -- The registers by which a guest reads and writes the state of Virtual Secure Mode: where each field stands (TLFS, Virtual Secure Mode: VSM registers).
-use Rattle.std.specs.Prelude.{ℕ, ◌+◌, ◌*◌, ◌^◌, Bool}
+use Rattle.std.specs.Prelude.{ℕ, ◌+◌, ◌*◌, ◌/◌, ◌%◌, ◌^◌, ◌==◌, Bool}
 use Rattle.std.specs.Int.{from_bool}
 use Rattle.vsm_base.specs.Levels.{level_number}
 use Rattle.vsm_base.specs.declared.places.Vtl.{Vtl}
@@ -19,3 +19,10 @@ capabilities dr6_shared deny_startup = from_bool dr6_shared + 2 ^ 17 * from_bool
 -- where the code of the two switches begins
 abbrev pub code_page_offsets : ℕ → ℕ → ℕ
 code_page_offsets call back = call + 2 ^ 12 * back
+
+-- in a configuration of the partition, bit 0 turns the protection of pages on, and bits 4:1 are the mask that pages have which were given none
+abbrev pub protects : ℕ → Bool
+protects config = config % 2 == 1
+
+abbrev pub default_mask : ℕ → ℕ
+default_mask config = config / 2 % 2 ^ 4

@@ -1,9 +1,11 @@
--- What a whole attempt works on at once: a list of masks, a generation, a list of posted words and a list of memory words.
-use Rattle.std.specs.Prelude.{ℕ, ◌+◌, ◌*◌, List, bit_or, slice_index, slice_set}
+-- What a whole attempt works on at once: the journal, by which the masks and the generation are known, a list of posted words and a list of memory words.
+use Rattle.std.specs.Prelude.{ℕ, ◌+◌, ◌*◌, List, ◌++◌, bit_or, slice_index, slice_set}
 use Rattle.vsm_base.specs.declared.places.Limits.{Limits}
 use Rattle.vsm_base.specs.Levels.{level_number}
 use Rattle.vsm_core.specs.declared.event.PendingWord.{PendingWord}
 use Rattle.vsm_core.specs.declared.event.PendingWord.TheVariants.{Start, Vectors}
+use Rattle.vsm_core.specs.Journal.{masks, rounds}
+use Rattle.vsm_core.specs.declared.journal.Entry.{Entry}
 use Rattle.vsm_core.specs.Tree.{WordStep, Entering, Checking, Masking, Reading, Writing, Leaving, Posting, Taking}
 
 -- the place of a memory word among all words of memory
@@ -16,18 +18,29 @@ abbrev pub posted_place : Limits → ℕ → PendingWord → ℕ
 posted_place limits p Start = p
 posted_place limits p (Vectors level part) = limits.vps + 8 * p + 4 * level_number level + part
 
--- what an attempt works on: the masks and the generation, the words that are posted to, and the memory words
+-- what an attempt works on: the opening masks and the partition's journal so far, the words that are posted to, and the memory words
 pub record Flat : Type 0 where
-  pub masks : List ℕ
-  pub generation : ℕ
+  pub opening : List ℕ
+  pub journal : List Entry
   pub posted : List ℕ
   pub memory : List ℕ
+
+-- the masks are those of the journal, and the generation is the number of its reports
+abbrev pub masks_in : Flat → List ℕ
+masks_in flat = masks flat.opening flat.journal
+
+abbrev pub generation_in : Flat → ℕ
+generation_in flat = rounds flat.journal
+
+-- once a request has added these entries
+abbrev pub with_entries : Flat → List Entry → Flat
+with_entries flat entries = record flat { journal = flat.journal ++ entries }
 
 -- what a step of a processor learns
 abbrev pub answer_in : Limits → ℕ → Flat → WordStep → ℕ
 answer_in limits p flat Entering = 0
-answer_in limits p flat Checking = flat.generation
-answer_in limits p flat (Masking page) = slice_index flat.masks page
+answer_in limits p flat Checking = generation_in flat
+answer_in limits p flat (Masking page) = slice_index (masks_in flat) page
 answer_in limits p flat (Reading page index) = slice_index flat.memory (memory_place page index)
 answer_in limits p flat (Writing page index value) = 0
 answer_in limits p flat Leaving = 0

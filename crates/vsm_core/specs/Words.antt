@@ -1,8 +1,8 @@
 -- All shared words in one list, and an attempt's steps on them.
-use Rattle.std.specs.Prelude.{◌≡◌, ℕ, ◌+◌, ◌*◌, List, bit_or, slice_index, slice_set, take, drop}
+use Rattle.std.specs.Prelude.{◌≡◌, ℕ, ◌+◌, ◌*◌, ◌<◌, List, length, bit_or, slice_index, slice_set, take, drop}
 use Rattle.vsm_base.specs.declared.places.Limits.{Limits}
 use Rattle.vsm_core.specs.Tree.{WordStep, Entering, Checking, Masking, Reading, Writing, Leaving, Posting, Taking}
-use Rattle.vsm_core.specs.Whole.{Flat, memory_place, posted_place}
+use Rattle.vsm_core.specs.Whole.{Flat, masks_in, generation_in, memory_place, posted_place}
 
 -- the places of the parts, in this order: a mask for each page, the generation, for each processor a busy word, a
 -- start word and eight words of pending vectors, and the memory
@@ -60,9 +60,10 @@ words_by limits p words (Posting vp word bits) = with_word limits p words (Posti
 words_by limits p words (Taking word) = with_word limits p words (Taking word) 0
 words_by limits p words _ = words
 
--- the words have these masks, this generation, these posted words and this memory
+-- the words have the masks and the generation of this journal, these posted words and this memory
 pub record Holds (limits : Limits) (words : List ℕ) (flat : Flat) : Type 0 where
-  pub of_masks : take limits.pages words ≡ flat.masks
-  pub of_generation : slice_index words (generation_at limits) ≡ flat.generation
+  pub long : generation_at limits < length words
+  pub of_masks : take limits.pages words ≡ masks_in flat
+  pub of_generation : slice_index words (generation_at limits) ≡ generation_in flat
   pub of_posted : take (9 * limits.vps) (drop (posted_at limits) words) ≡ flat.posted
   pub of_memory : drop (memory_at limits) words ≡ flat.memory

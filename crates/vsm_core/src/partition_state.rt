@@ -12,10 +12,14 @@ pub struct Standing {
     pub waiting: Option<[u64; 28]>,
 }
 
-/// The partition between two requests: whether level 1 is enabled for it (TLFS, HvCallEnablePartitionVtl), and its
-/// processors in the order of their numbers.
+/// The partition between two requests: how many pages it has, whether level 1 is enabled for it (TLFS,
+/// HvCallEnablePartitionVtl), the bits of its configuration (TLFS, HV_REGISTER_VSM_PARTITION_CONFIG), how many rounds were
+/// made, and its processors in the order of their numbers.
 #[derive(Debug, Drop)]
 pub struct PartitionState {
+    pub pages: u32,
     pub enabled: bool,
+    pub config: u64,
+    pub rounds: u64,
     pub vps: Items<Standing>,
 }

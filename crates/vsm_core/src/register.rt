@@ -16,4 +16,6 @@ pub enum CallRegister {
     PartitionStatus,
     /// What the hypervisor offers (TLFS, HvRegisterVsmCapabilities).
     Capabilities,
+    /// What level 1 asks for the whole partition (TLFS, HvRegisterVsmPartitionConfig).
+    PartitionConfig,
 }

@@ -237,7 +237,7 @@ started 3\n\
 mask 2 0\n\
 program 0 0\n\
 set Rdx 0x7ffc\n\
-set Rcx 0x2\n\
+set Rcx 0x4\n\
 hypercall\n\
 set Rcx 0x8000000100010001\n\
 hypercall\n\
@@ -280,7 +280,7 @@ hypercall\n\
 get Rax\n\
 program 1 0\n\
 set Cs 0x3000000000000000000000000\n\
-set Rcx 0x2\n\
+set Rcx 0x4\n\
 hypercall\n\
 program 2 0\n\
 set Rcx 0x1000d\n\

@@ -12,11 +12,17 @@ pub use vsm_run::trace;
 #[cfg(test)]
 mod cases;
 #[cfg(test)]
+mod change_cases;
+#[cfg(test)]
 mod hypercall_cases;
 #[cfg(test)]
 mod intercept_cases;
 #[cfg(test)]
 mod name_cases;
+#[cfg(test)]
+mod protection_cases;
+#[cfg(test)]
+mod protection_refusals;
 #[cfg(test)]
 mod register_cases;
 #[cfg(test)]

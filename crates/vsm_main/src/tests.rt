@@ -5,7 +5,7 @@ use std::test::Fail;
 use vsm_base::{MemSink, MemSource, SureSink, SureSource};
 
 // Room for the largest text of these scripts.
-const ROOM: usize = 3500;
+const ROOM: usize = 6300;
 
 fn words(alloc: Global, command: &str) -> Result<Vec<String>, AllocError> {
     let mut words = Vec::new(alloc);
@@ -33,6 +33,16 @@ fn each_script_gives_the_report_that_was_worked_out_apart_from_the_program(
         name_cases::NAMES_AT_LEVEL_0.as_slice(),
         name_cases::NAMES_AT_LEVEL_1.as_slice(),
         name_cases::REFUSALS_AT_LEVEL_1.as_slice(),
+        protection_cases::PROTECTION.as_slice(),
+        protection_cases::SLICES_OF_PAGES.as_slice(),
+        protection_cases::ALL_PAGES.as_slice(),
+        change_cases::FIRST.as_slice(),
+        change_cases::SECOND.as_slice(),
+        change_cases::THIRD.as_slice(),
+        change_cases::FOURTH.as_slice(),
+        change_cases::FIFTH.as_slice(),
+        protection_refusals::REFUSED_CALLS.as_slice(),
+        protection_refusals::REFUSED_CONFIGURATIONS.as_slice(),
     ];
     for group in groups {
         for case in group {

@@ -6,6 +6,7 @@ use Rattle.std.proofs.lemmas.List.{length-set, get_or-set_other}
 use Rattle.std.proofs.lemmas.Option.{slice_get_within, slice_get-get_or, get_or_from_slice_get}
 use Rattle.vsm_core.specs.declared.event.Event.{Event}
 use Rattle.vsm_core.specs.declared.event.Event.TheVariants as events
+use Rattle.vsm_core.specs.declared.journal.Entry.{Entry}
 use Rattle.vsm_core.specs.declared.mark.Ending.{Ending}
 use Rattle.vsm_core.specs.declared.mark.What.{What}
 use Rattle.vsm_core.specs.declared.mark.What.TheVariants.{Again}
@@ -14,7 +15,7 @@ use Rattle.vsm_core.specs.Outcomes.{Outcome}
 use Rattle.vsm_core.specs.declared.partition_state.PartitionState.{PartitionState}
 use Rattle.vsm_core.specs.declared.request.Reply.{Reply}
 use Rattle.vsm_core.specs.Processor.{Vp, IsSameProcessor, saw, came_to, marked_or_ended, asking, answered, does_all}
-use Rattle.vsm_core.specs.Served.{answer, after}
+use Rattle.vsm_core.specs.Served.{answer, after, block}
 use Rattle.vsm_core.specs.Steps.{made}
 use Rattle.vsm_core.specs.Tree.{Tree, Ends, Asks, Wants, WordStep}
 
@@ -43,15 +44,15 @@ answered-same : (reply : Reply) (op : Option Op) (v : Vp) → IsSameProcessor v 
 answered-same reply op v = record { number = refl; limits = refl; zero_length = refl; one_length = refl; started = refl }
 
 -- whatever an attempt asks and is answered
-module _ {W : Type 0} (answers : W → WordStep → ℕ) (changes : W → WordStep → W) (op : Option Op) where
-  pub does_all-same : (s : PartitionState) (v : Vp) (words : W) (t : Tree Outcome) → IsSameProcessor v (does_all answers changes s op v words t).vp
+module _ {W : Type 0} (answers : W → WordStep → ℕ) (changes : W → WordStep → W) (adds : W → List Entry → W) (op : Option Op) where
+  pub does_all-same : (s : PartitionState) (v : Vp) (words : W) (t : Tree Outcome) → IsSameProcessor v (does_all answers changes adds s op v words t).vp
   does_all-same s v words (Ends o) = came_to-same o.what v o
   does_all-same s v words (Asks step k) =
       let x = answers words step in
       let seen = saw op v (made step x) in same_by v seen _ (saw-same op v (made step x)) (does_all-same s seen (changes words step) (k x))
   does_all-same s v words (Wants q k) =
       let reply = answer s q in
-      let heard = answered reply (asking op v) in same_by v heard _ (answered-same reply op v) (does_all-same (after s q) heard words (k reply))
+      let heard = answered reply (asking op v) in same_by v heard _ (answered-same reply op v) (does_all-same (after s q) heard (adds words (block s q)) (k reply))
 
 -- what holds of each element by its place holds when one is set for which it holds
 pub places-set : {X : Type 0} (P : ℕ → X → Type 0) (xs : List X) (i : ℕ) (y : X) → P i y → ((j : ℕ) (x : X) → slice_get xs j ≡ Some x → P j x) → (j : ℕ) (x : X) → slice_get (slice_set xs i y) j ≡ Some x → P j x

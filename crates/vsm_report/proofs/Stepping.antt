@@ -12,12 +12,13 @@ use Rattle.vsm_core.specs.declared.operation.Program.{Program}
 use Rattle.vsm_core.specs.declared.journal.Entry.{Entry}
 use Rattle.vsm_core.specs.declared.partition_state.PartitionState.{PartitionState}
 use Rattle.vsm_core.specs.declared.request.Request.{Request}
-use Rattle.vsm_core.specs.AtOnce.{SameDid}
+use Rattle.vsm_core.specs.AtOnce.{SameDid, IsInStep}
+use Rattle.vsm_core.specs.Entries.{words_by_entries}
 use Rattle.vsm_core.specs.Processor.{Vp, Did, IsSameProcessor, origin_of, tree_of, operation_at, does_all, attempted}
 use Rattle.vsm_core.specs.Served.{after, state_after, joined}
-use Rattle.vsm_core.specs.Whole.{Flat, answer_in, flat_after}
+use Rattle.vsm_core.specs.Whole.{Flat, answer_in, flat_after, with_entries}
 use Rattle.vsm_core.specs.Words.{Holds, answer_of, words_by, memory_at, posted_at}
-use Rattle.vsm_core.proofs.SameAnswers.{attempt-same}
+use Rattle.vsm_core.proofs.SameAnswers.{attempt-same, attempt-in-step}
 use Rattle.guest_script.specs.declared.script.Turns.{Turns}
 use Rattle.guest_script.specs.declared.script.Script.{Script}
 use Rattle.guest_script.specs.Programs.{program_at}
@@ -63,39 +64,51 @@ pub record Keeps (first : PartitionState) (k : Kept) (served : List (Request × 
   pub state : k.state ≡ state_after first served
   pub journal : k.journal ≡ joined served
 
--- the same processors and lines, what is kept of the partition by the requests that were served, and shared words that
--- hold what whole attempts work on
+-- the same processors and lines, what is kept of the partition by the requests that were served, shared words that hold
+-- what whole attempts work on, and a partition in step with the journal
 pub record Alike (first : PartitionState) (limits : Limits) (v : Stepped) (w : World) : Type 0 where
   pub vps : v.vps ≡ w.vps
   pub lines : v.lines ≡ w.lines
   pub kept : Keeps first v.partition w.partition
   pub holds : Holds limits v.words w.words
+  pub step : IsInStep limits (state_after first w.partition) w.words
   pub placed : (p : ℕ) (u : Vp) → slice_get w.vps p ≡ Some u → IsPlaced limits p u
 
--- where a program has no operation, the attempt asks nothing
-tree-same : (v : Vp) (s : PartitionState) (op : Option Op) (words : List ℕ) (flat : Flat) → v.number < v.limits.vps → Holds v.limits words flat
-    → SameDid v.limits (does_all (answer_of v.limits v.number) (words_by v.limits v.number) s op v words (tree_of (origin_of v) op)) (does_all (answer_in v.limits v.number) (flat_after v.limits v.number) s op v flat (tree_of (origin_of v) op))
-tree-same v s None words flat low h = record { vp = refl; served = refl; holds = h }
-tree-same v s (Some op) words flat low h = attempt-same v s op words flat low h
+-- what an attempt does on all shared words, and what it does on the journal and the lists that they hold
+abbrev does_steps : Vp → PartitionState → Option Op → List ℕ → Did (List ℕ)
+does_steps v s op words = does_all (answer_of v.limits v.number) (words_by v.limits v.number) (words_by_entries v.limits) s op v words (tree_of (origin_of v) op)
 
--- two attempts of one processor that come to the same
-record SameAttempt (limits : Limits) (p : ℕ) (steps : Did (List ℕ)) (whole : Did Flat) : Type 0 where
+abbrev does_whole : Vp → PartitionState → Option Op → Flat → Did Flat
+does_whole v s op flat = does_all (answer_in v.limits v.number) (flat_after v.limits v.number) with_entries s op v flat (tree_of (origin_of v) op)
+
+-- where a program has no operation, the attempt asks nothing
+tree-same : (v : Vp) (s : PartitionState) (op : Option Op) (words : List ℕ) (flat : Flat) → v.number < v.limits.vps → IsInStep v.limits s flat → Holds v.limits words flat → SameDid v.limits (does_steps v s op words) (does_whole v s op flat)
+tree-same v s None words flat low step h = record { vp = refl; served = refl; holds = h }
+tree-same v s (Some op) words flat low step h = attempt-same v s op words flat low step h
+
+tree-in-step : (v : Vp) (s : PartitionState) (op : Option Op) (flat : Flat) → IsInStep v.limits s flat → IsInStep v.limits (state_after s (does_whole v s op flat).served) (does_whole v s op flat).words
+tree-in-step v s None flat step = step
+tree-in-step v s (Some op) flat step = attempt-in-step v s op flat step
+
+-- two attempts of one processor that come to the same, with a partition in this state
+record SameAttempt (limits : Limits) (p : ℕ) (s : PartitionState) (steps : Did (List ℕ)) (whole : Did Flat) : Type 0 where
   did : SameDid limits steps whole
   placed : IsPlaced limits p whole.vp
+  step : IsInStep limits (state_after s whole.served) whole.words
 
-attempt-did : (limits : Limits) (program : Program) (p : ℕ) (v : Vp) (s : PartitionState) (words : List ℕ) (flat : Flat) → IsPlaced limits p v → Holds limits words flat → SameAttempt limits p (made_steps program v s words) (attempted program v s flat)
+attempt-did : (limits : Limits) (program : Program) (p : ℕ) (v : Vp) (s : PartitionState) (words : List ℕ) (flat : Flat) → IsPlaced limits p v → IsInStep limits s flat → Holds limits words flat → SameAttempt limits p s (made_steps program v s words) (attempted program v s flat)
 unfolding made_steps attempted
-attempt-did limits program p v s words flat is h =
+attempt-did limits program p v s words flat is step h =
     let op = operation_at program v.state in
-    let t = tree_of (origin_of v) op in
     let low : v.number < v.limits.vps = subst (λ (l : Limits). v.number < l.vps) (sym is.limits_same) (subst (λ n. n < limits.vps) (sym is.number) is.low) in
     let held : Holds v.limits words flat = subst (λ l. Holds l words flat) (sym is.limits_same) h in
-    let steps : Did (List ℕ) = does_all (answer_of v.limits v.number) (words_by v.limits v.number) s op v words t in
-    let whole : Did Flat = does_all (answer_in v.limits v.number) (flat_after v.limits v.number) s op v flat t in
-    let kept : IsSameProcessor v whole.vp = does_all-same (answer_in v.limits v.number) (flat_after v.limits v.number) op s v flat t in
+    let stepped : IsInStep v.limits s flat = subst (λ l. IsInStep l s flat) (sym is.limits_same) step in
+    let whole : Did Flat = does_whole v s op flat in
+    let kept : IsSameProcessor v whole.vp = does_all-same (answer_in v.limits v.number) (flat_after v.limits v.number) with_entries op s v flat (tree_of (origin_of v) op) in
     record {
-      did = subst (λ l. SameDid l steps whole) is.limits_same (tree-same v s op words flat low held);
+      did = subst (λ l. SameDid l (does_steps v s op words) whole) is.limits_same (tree-same v s op words flat low stepped held);
       placed = record { limits_same = kept.limits ∙ is.limits_same; number = kept.number ∙ is.number; low = is.low };
+      step = subst (λ l. IsInStep l (state_after s whole.served) whole.words) is.limits_same (tree-in-step v s op flat stepped);
     }
 
 pub state_after-append : (s : PartitionState) (before more : List (Request × List Entry)) → state_after s (before ++ more) ≡ state_after (state_after s before) more
@@ -122,13 +135,14 @@ at_once first p program w u = acted_at attempted (state_after first) (λ before 
 
 module _ (first : PartitionState) (limits : Limits) where
   -- two worlds after the same attempt
-  with_attempt-alike : (p : ℕ) (v : Stepped) (w : World) (u : Vp) (steps : Did (List ℕ)) (whole : Did Flat) → Alike first limits v w → SameAttempt limits p steps whole
+  with_attempt-alike : (p : ℕ) (v : Stepped) (w : World) (u : Vp) (steps : Did (List ℕ)) (whole : Did Flat) → Alike first limits v w → SameAttempt limits p (state_after first w.partition) steps whole
       → Alike first limits (with_attempt made_steps (λ (k : Kept). k.state) after_more p v u steps) (with_attempt attempted (state_after first) (λ before more. before ++ more) p w u whole)
   with_attempt-alike p v w u steps whole r same = record {
     vps = ap (λ us. slice_set us p steps.vp) r.vps ∙ ap (slice_set w.vps p) same.did.vp;
     lines = ap (λ ls. ls ++ attempt_lines p steps.served u steps.vp) r.lines ∙ ap (λ vs. w.lines ++ attempt_lines p vs u steps.vp) same.did.served ∙ ap (λ x. w.lines ++ attempt_lines p whole.served u x) same.did.vp;
     kept = kept-more first v.partition w.partition steps.served whole.served same.did.served r.kept;
     holds = same.did.holds;
+    step = subst (λ s. IsInStep limits s whole.words) (sym (state_after-append first w.partition whole.served)) same.step;
     placed = places-set (IsPlaced limits) w.vps p whole.vp same.placed r.placed;
   }
 
@@ -136,9 +150,10 @@ module _ (first : PartitionState) (limits : Limits) where
   either true v v' w w' r s = r
   either false v v' w w' r s = s
 
-  attempts-alike : (program : Program) (p : ℕ) (v : Stepped) (w : World) (u : Vp) → IsPlaced limits p u → Alike first limits v w → SameAttempt limits p (made_steps program u v.partition.state v.words) (attempted program u (state_after first w.partition) w.words)
+  attempts-alike : (program : Program) (p : ℕ) (v : Stepped) (w : World) (u : Vp) → IsPlaced limits p u → Alike first limits v w → SameAttempt limits p (state_after first w.partition) (made_steps program u v.partition.state v.words) (attempted program u (state_after first w.partition) w.words)
   attempts-alike program p v w u is r =
-      subst (λ s. SameAttempt limits p (made_steps program u v.partition.state v.words) (attempted program u s w.words)) r.kept.state (attempt-did limits program p u v.partition.state v.words w.words is r.holds)
+      let step = subst (λ s. IsInStep limits s w.words) (sym r.kept.state) r.step in
+      subst (λ s. SameAttempt limits p s (made_steps program u v.partition.state v.words) (attempted program u s w.words)) r.kept.state (attempt-did limits program p u v.partition.state v.words w.words is step r.holds)
 
   -- the processor that stands at a place acts, if there is one
   acted_at-alike : (program : Program) (p : ℕ) (v : Stepped) (w : World) (u : Option Vp) → slice_get w.vps p ≡ u → Alike first limits v w → Alike first limits (by_steps p program v u) (at_once first p program w u)
@@ -161,7 +176,7 @@ zeros-behind n m masks memory =
 
 -- the shared words at the opening
 holds_opening : (limits : Limits) (masks memory : List ℕ) → length masks ≡ limits.pages
-    → Holds limits (masks ++ (replicate (1 + 10 * limits.vps) 0 ++ memory)) (record { masks = masks; generation = 0; posted = replicate (9 * limits.vps) 0; memory = memory })
+    → Holds limits (masks ++ (replicate (1 + 10 * limits.vps) 0 ++ memory)) (record { opening = masks; journal = []; posted = replicate (9 * limits.vps) 0; memory = memory })
 holds_opening limits masks memory m =
     let zeros : List ℕ = replicate (1 + 10 * limits.vps) 0 in
     let many : length zeros ≡ 1 + 10 * limits.vps = length-replicate (1 + 10 * limits.vps) 0 in
@@ -170,6 +185,7 @@ holds_opening limits masks memory m =
     let behind : posted_at limits ≡ length masks + (1 + limits.vps) = omega arith in
     let rest : 1 + 10 * limits.vps ≡ 9 * limits.vps + (1 + limits.vps) = omega arith in
     record {
+      long = omega (arith, length-append masks (zeros ++ memory), length-append zeros memory);
       of_masks = ap (λ n. take n (masks ++ (zeros ++ memory))) (sym m) ∙ take-append_seam masks (zeros ++ memory);
       of_generation = get_or-append_right masks (zeros ++ memory) limits.pages limits.pages 0 m (omega arith) ∙ ap (λ i. slice_index (zeros ++ memory) i) here ∙ get_or-append zeros memory 0 0 (omega arith) ∙ get_or-replicate (1 + 10 * limits.vps) 0 0 0 (omega arith);
       of_posted = ap (λ n. take (9 * limits.vps) (drop n (masks ++ (zeros ++ memory)))) behind ∙ ap (λ n. take (9 * limits.vps) (drop (length masks + (1 + limits.vps)) (masks ++ (replicate n 0 ++ memory)))) rest ∙ zeros-behind (9 * limits.vps) (1 + limits.vps) masks memory;
@@ -195,6 +211,7 @@ opened_alike s all = record {
   lines = refl;
   kept = record { state = refl; journal = refl };
   holds = holds_opening s.limits (opening_masks s) (opening_words s) (length-opening_masks s);
+  step = record { pages = refl; rounds = refl };
   placed = opening-placed s all;
 }
 

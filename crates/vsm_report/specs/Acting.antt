@@ -28,7 +28,7 @@ pub record WorldOf (W P : Type 0) : Type 0 where
 
 -- the partition before the first request
 abbrev pub first_partition : Script → PartitionState
-first_partition s = opening_partition s.limits.vps s.started
+first_partition s = opening_partition s.limits s.started
 
 -- the processor of this number before its first attempt
 abbrev pub opening_vp : Script → ℕ → Vp

@@ -6,23 +6,23 @@ use Rattle.vsm_core.specs.declared.partition_state.PartitionState.{PartitionStat
 use Rattle.vsm_core.specs.declared.request.Request.{Request}
 use Rattle.vsm_core.specs.Processor.{attempted}
 use Rattle.vsm_core.specs.Served.{state_after, joined}
-use Rattle.vsm_core.specs.Whole.{Flat}
+use Rattle.vsm_core.specs.Whole.{Flat, masks_in}
 use Rattle.guest_script.specs.declared.script.Script.{Script}
 use Rattle.vsm_report.specs.declared.report.Report.{Report}
 use Rattle.vsm_report.specs.Acting.{WorldOf, first_partition, opening_vps, acted_by, report_with}
 use Rattle.vsm_report.specs.Opening.{opening_masks, opening_words}
 use Rattle.vsm_report.specs.Schedule.{after_schedule}
 
--- attempts work on the masks, the generation, the posted words and the memory, and of the partition the requests are kept
--- that were served, oldest first, each with its entries
+-- attempts work on the opening masks with the journal so far, the posted words and the memory, and of the partition the
+-- requests are kept that were served, oldest first, each with its entries
 abbrev pub World : Type 0
 World = WorldOf Flat (List (Request × List Entry))
 
--- what attempts work on as a run begins: nothing is posted
+-- what attempts work on as a run begins: the journal is empty, and nothing is posted
 unfoldable pub opening_flat : Script → Flat
 opening_flat s = record {
-  masks = opening_masks s;
-  generation = 0;
+  opening = opening_masks s;
+  journal = [];
   posted = replicate (9 * s.limits.vps) 0;
   memory = opening_words s;
 }
@@ -37,7 +37,7 @@ unfoldable pub acted : PartitionState → List Program → ℕ → World → Wor
 acted first programs p w = acted_by attempted (state_after first) (λ before more. before ++ more) programs p w
 
 abbrev pub report_of : World → Report
-report_of w = report_with w (joined w.partition) w.words.masks w.words.memory
+report_of w = report_with w (joined w.partition) (masks_in w.words) w.words.memory
 
 -- how a script's run ends
 unfoldable pub closed : Script → World

@@ -1,9 +1,11 @@
--- The run of a script step by step on all shared words: a turn is every step of its processor up to its mark.
+-- The run of a script step by step on all shared words: a turn is every step of its processor, and of the partition that
+-- serves it, up to its mark.
 use Rattle.std.specs.Prelude.{ℕ, ◌+◌, ◌*◌, List, [], ◌++◌, take, drop, replicate}
 use Rattle.vsm_core.specs.declared.operation.Program.{Program}
 use Rattle.vsm_core.specs.declared.journal.Entry.{Entry}
 use Rattle.vsm_core.specs.declared.partition_state.PartitionState.{PartitionState}
 use Rattle.vsm_core.specs.declared.request.Request.{Request}
+use Rattle.vsm_core.specs.Entries.{words_by_entries}
 use Rattle.vsm_core.specs.Processor.{Vp, Did, does_all, operation_at, origin_of, tree_of}
 use Rattle.vsm_core.specs.Served.{state_after, joined}
 use Rattle.vsm_core.specs.Words.{answer_of, memory_at, words_by}
@@ -39,10 +41,10 @@ stepped_opening s = record {
 }
 
 -- the steps of the operation where the program stands, up to the mark, each answered by the words as they stand, and its
--- requests by a partition in this state
+-- requests by a partition in this state, with the steps of their entries
 unfoldable pub made_steps : Program → Vp → PartitionState → List ℕ → Did (List ℕ)
 made_steps program v state words =
-    does_all (answer_of v.limits v.number) (words_by v.limits v.number) state (operation_at program v.state) v words (tree_of (origin_of v) (operation_at program v.state))
+    does_all (answer_of v.limits v.number) (words_by v.limits v.number) (words_by_entries v.limits) state (operation_at program v.state) v words (tree_of (origin_of v) (operation_at program v.state))
 
 -- a processor acts: its whole attempt step by step
 unfoldable pub stepped : List Program → ℕ → Stepped → Stepped

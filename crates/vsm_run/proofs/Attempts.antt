@@ -1,10 +1,10 @@
 -- What an attempt keeps of its processor, how many marks it adds, and that each request is paid for by a mark.
 use Rattle.std.proofs.Common.{◌≡◌, ◌<◌, ◌≤◌, ◌+◌, ◌-◌, ℕ, Bool, true, false, cond, nat_lt, Option, Some, None, IfSome, List, [], ◌∷◌, ◌++◌, take, length, refl, sym, ap, subst, ◌∙◌, length-append, length-take, arith}
 use Rattle.std.proofs.lemmas.Bool.Decides.{nat_tests}
-use Rattle.std.proofs.lemmas.List.{append-nil}
 use Rattle.vsm_base.specs.declared.places.Limits.{Limits}
 use Rattle.vsm_core.specs.declared.event.Event.{Event}
 use Rattle.vsm_core.specs.declared.event.Event.TheVariants as events
+use Rattle.vsm_core.specs.declared.journal.Entry.{Entry}
 use Rattle.vsm_core.specs.declared.mark.Ending.{Ending}
 use Rattle.vsm_core.specs.declared.mark.Ending.TheVariants as endings
 use Rattle.vsm_core.specs.declared.mark.Mark.{Mark}
@@ -12,12 +12,13 @@ use Rattle.vsm_core.specs.declared.mark.What.{What}
 use Rattle.vsm_core.specs.declared.mark.What.TheVariants.{Again}
 use Rattle.vsm_core.specs.declared.operation.Op.{Op}
 use Rattle.vsm_core.specs.declared.operation.Program.{Program}
+use Rattle.vsm_core.specs.Entries.{words_by_entries}
 use Rattle.vsm_core.specs.Outcomes.{Outcome}
 use Rattle.vsm_core.specs.declared.partition_state.PartitionState.{PartitionState}
 use Rattle.vsm_core.specs.declared.request.Reply.{Reply}
 use Rattle.vsm_core.specs.Keeps.{EndsIn}
 use Rattle.vsm_core.specs.Processor.{Vp, Did, IsSameProcessor, saw, asking, answered, came_to, does_all, marked_or_ended, or_else, ran_out, stopped_by, spun_out, length_of, ending_after, standing, operation_at, origin_of, tree_of}
-use Rattle.vsm_core.specs.Served.{after, answer, block, joined}
+use Rattle.vsm_core.specs.Served.{after, answer, block}
 use Rattle.vsm_core.specs.State.{State, rip_of}
 use Rattle.vsm_core.specs.Steps.{made}
 use Rattle.vsm_core.specs.Tree.{Tree, Ends, Asks, Wants, WordStep}
@@ -27,7 +28,6 @@ use Rattle.vsm_report.specs.Trace.{made_steps}
 use Rattle.vsm_report.proofs.Processors.{does_all-same}
 use Rattle.vsm_run.specs.Fits.{FitsOne}
 use Rattle.vsm_run.specs.Rests.{HasMarkLeft, IsAtRest, IsInPlace}
-use Rattle.vsm_run.proofs.Blocks.{block-one}
 
 -- at most one mark more than stood before
 pub record AddsFew (stood : List Mark) (marks : List Mark) : Type 0 where
@@ -157,47 +157,47 @@ came_to-keeps program (Again grant) v o h = marked_or_ended-keeps program v o _ 
 came_to-keeps program _ v o h = tt
 
 -- what holds as an attempt begins, and after each event and reply, leaves something at its end
-module _ {W : Type 0} (answers : W → WordStep → ℕ) (changes : W → WordStep → W) (op : Option Op) (P Q : Vp → Type 0) (sees : (v : Vp) (e : Event) → P v → P (saw op v e)) (hears : (v : Vp) (reply : Reply) → P v → P (answered reply (asking op v))) (ends : (v : Vp) (o : Outcome) → P v → Q (came_to o.what v o)) where
-  by_end : (s : PartitionState) (v : Vp) (words : W) (t : Tree Outcome) → P v → Q (does_all answers changes s op v words t).vp
+module _ {W : Type 0} (answers : W → WordStep → ℕ) (changes : W → WordStep → W) (adds : W → List Entry → W) (op : Option Op) (P Q : Vp → Type 0) (sees : (v : Vp) (e : Event) → P v → P (saw op v e)) (hears : (v : Vp) (reply : Reply) → P v → P (answered reply (asking op v))) (ends : (v : Vp) (o : Outcome) → P v → Q (came_to o.what v o)) where
+  by_end : (s : PartitionState) (v : Vp) (words : W) (t : Tree Outcome) → P v → Q (does_all answers changes adds s op v words t).vp
   by_end s v words (Ends o) h = ends v o h
   by_end s v words (Asks step k) h =
       let x = answers words step in by_end s (saw op v (made step x)) (changes words step) (k x) (sees v (made step x) h)
   by_end s v words (Wants q k) h =
-      let reply = answer s q in by_end (after s q) (answered reply (asking op v)) words (k reply) (hears v reply h)
+      let reply = answer s q in by_end (after s q) (answered reply (asking op v)) (adds words (block s q)) (k reply) (hears v reply h)
 
--- how many entries an attempt adds, and that each is paid for by a mark that stays
+-- how many requests an attempt makes, and that each is paid for by a mark that stays
 pub record Pays (stood : List Mark) (did : Did (List ℕ)) : Type 0 where
-  pub one : length (joined did.served) ≤ 1
-  pub spends : length (joined did.served) + length stood ≤ length (standing did.vp)
+  pub one : length did.served ≤ 1
+  pub spends : length did.served + length stood ≤ length (standing did.vp)
 
 -- nothing is served, and a mark more stays
 record Unserved (stood : List Mark) (did : Did (List ℕ)) : Type 0 where
   none : did.served ≡ []
   marks : length (standing did.vp) ≡ length stood + 1
 
-module _ (answers : List ℕ → WordStep → ℕ) (changes : List ℕ → WordStep → List ℕ) (op : Option Op) where
-  does_all-unserved : (s : PartitionState) (v : Vp) (words : List ℕ) (t : Tree Outcome) → Unasked t → EndsIn NoAgain t → Unserved (standing v) (does_all answers changes s op v words t)
+module _ (answers : List ℕ → WordStep → ℕ) (changes : List ℕ → WordStep → List ℕ) (adds : List ℕ → List Entry → List ℕ) (op : Option Op) where
+  does_all-unserved : (s : PartitionState) (v : Vp) (words : List ℕ) (t : Tree Outcome) → Unasked t → EndsIn NoAgain t → Unserved (standing v) (does_all answers changes adds s op v words t)
   does_all-unserved s v words (Ends o) asks ends = record { none = refl; marks = no-again-stands o.what v o ends }
   does_all-unserved s v words (Asks step k) asks ends =
       let x = answers words step in
-      let did = does_all answers changes s op (saw op v (made step x)) (changes words step) (k x) in
+      let did = does_all answers changes adds s op (saw op v (made step x)) (changes words step) (k x) in
       subst (λ ms. Unserved ms did) (saw-sees op v (made step x)).stood (does_all-unserved s (saw op v (made step x)) (changes words step) (k x) (asks x) (ends x))
   does_all-unserved s v words (Wants q k) asks ends = absurd asks
 
-  does_all-pays : (number : ℕ) (s : PartitionState) (v : Vp) (words : List ℕ) (t : Tree Outcome) → Asked (IsOwnRequest number) t → Pays (standing v) (does_all answers changes s op v words t)
+  does_all-pays : (number : ℕ) (s : PartitionState) (v : Vp) (words : List ℕ) (t : Tree Outcome) → Asked (IsOwnRequest number) t → Pays (standing v) (does_all answers changes adds s op v words t)
   does_all-pays number s v words (Ends o) own = let le = came_to-stands o.what v o in record { one = omega arith; spends = omega arith }
   does_all-pays number s v words (Asks step k) own =
       let x = answers words step in
-      let did = does_all answers changes s op (saw op v (made step x)) (changes words step) (k x) in
+      let did = does_all answers changes adds s op (saw op v (made step x)) (changes words step) (k x) in
       subst (λ ms. Pays ms did) (saw-sees op v (made step x)).stood (does_all-pays number s (saw op v (made step x)) (changes words step) (k x) (own x))
   does_all-pays number s v words (Wants q k) own =
       let reply = answer s q in
       let ends = own.ends reply in
-      let did = does_all answers changes (after s q) op (answered reply (asking op v)) words (k reply) in
-      let rest = does_all-unserved (after s q) (answered reply (asking op v)) words (k reply) ends.0 ends.1 in
+      let words_then = adds words (block s q) in
+      let did = does_all answers changes adds (after s q) op (answered reply (asking op v)) words_then (k reply) in
+      let rest = does_all-unserved (after s q) (answered reply (asking op v)) words_then (k reply) ends.0 ends.1 in
       let marks = rest.marks in
-      let one = block-one s q in
-      let all : length (block s q ++ joined did.served) ≡ length (block s q) = ap (λ vs. length (block s q ++ joined vs)) rest.none ∙ ap length (append-nil (block s q)) in
+      let none : length did.served ≡ 0 = ap length rest.none in
       record { one = omega arith; spends = omega arith }
 
 module _ (program : Program) (v : Vp) (s : PartitionState) (words : List ℕ) where
@@ -209,13 +209,13 @@ module _ (program : Program) (v : Vp) (s : PartitionState) (words : List ℕ) wh
 
   pub made_steps-same : IsSameProcessor v (made_steps program v s words).vp
   unfolding made_steps
-  made_steps-same = does_all-same (answer_of v.limits v.number) (words_by v.limits v.number) here s v words rest
+  made_steps-same = does_all-same (answer_of v.limits v.number) (words_by v.limits v.number) (words_by_entries v.limits) here s v words rest
 
   -- what follows from what its events keep
   by_sees : (Q : Vp → Type 0) → ((u : Vp) (o : Outcome) → Sees v u → Q (came_to o.what u o)) → Q (made_steps program v s words).vp
   unfolding made_steps
   by_sees Q ends =
-      by_end (answer_of v.limits v.number) (words_by v.limits v.number) here (Sees v) Q
+      by_end (answer_of v.limits v.number) (words_by v.limits v.number) (words_by_entries v.limits) here (Sees v) Q
       (λ u e h. let g = saw-sees here u e in record { limits = g.limits ∙ h.limits; state = g.state ∙ h.state; stood = g.stood ∙ h.stood; ended = g.ended ∙ h.ended })
       (λ u reply h. record { limits = h.limits; state = h.state; stood = h.stood; ended = h.ended })
       ends s v words rest (sees-itself v)
@@ -232,19 +232,19 @@ module _ (program : Program) (v : Vp) (s : PartitionState) (words : List ℕ) wh
 
   pub made_steps-pays : Pays (standing v) (made_steps program v s words)
   unfolding made_steps
-  made_steps-pays = does_all-pays (answer_of v.limits v.number) (words_by v.limits v.number) here v.number s v words rest (own-requests (origin_of v) here None [])
+  made_steps-pays = does_all-pays (answer_of v.limits v.number) (words_by v.limits v.number) (words_by_entries v.limits) here v.number s v words rest (own-requests (origin_of v) here None [])
 
   made_steps-keeps : Keeps program v → Keeps program (made_steps program v s words).vp
   unfolding made_steps
   made_steps-keeps h =
-      by_end (answer_of v.limits v.number) (words_by v.limits v.number) here (IsHere program here) (Keeps program)
+      by_end (answer_of v.limits v.number) (words_by v.limits v.number) (words_by_entries v.limits) here (IsHere program here) (Keeps program)
       (saw-here program here) (λ u reply g. record { here = g.here; kept = keeps_same (operation_at program u.state) here g.here })
       (λ u o g. came_to-keeps program o.what u o g.kept) s v words rest (record { here = refl; kept = h })
 
   made_steps-owes : v.owes ≡ false → (made_steps program v s words).vp.owes ≡ false
   unfolding made_steps
   made_steps-owes owes =
-      by_end (answer_of v.limits v.number) (words_by v.limits v.number) here (λ u. u.owes ≡ false) (λ u. u.owes ≡ false)
+      by_end (answer_of v.limits v.number) (words_by v.limits v.number) (words_by_entries v.limits) here (λ u. u.owes ≡ false) (λ u. u.owes ≡ false)
       (saw-owes here) (λ u reply g. refl) (λ u o g. came_to-owes o.what u o ∙ g) s v words rest owes
 
   made_steps-left : HasMarkLeft v → HasMarkLeft (made_steps program v s words).vp

@@ -1,6 +1,9 @@
 -- Processors before their first attempts.
-use Rattle.std.proofs.Common.{◌≡◌, ◌<◌, ◌≤◌, ◌+◌, ℕ, Bool, zero, suc, nat_lt, Some, List, [], ◌∷◌, ◌++◌, length, map, replicate, get_or, slice_get, refl, sym, ap, subst, ◌∙◌, zero-add, arith}
+use Rattle.std.proofs.Common.{◌≡◌, ◌<◌, ◌≤◌, ◌+◌, ◌-◌, ◌*◌, ℕ, Bool, zero, suc, nat_lt, Some, List, [], ◌∷◌, ◌++◌, length, map, replicate, get_or, slice_get, refl, sym, ap, subst, ◌∙◌, zero-add, arith}
+use Rattle.std.specs.Prelude.{slice_index}
 use Rattle.std.specs.List.{range_with_len}
+use Rattle.std.proofs.Math.ListN.{get_or-append}
+use Rattle.std.proofs.lemmas.List.{length-replicate, get_or-append_right, get_or-replicate}
 use Rattle.std.proofs.lemmas.Bool.Decides.{nat_tests}
 use Rattle.std.proofs.lemmas.List.FromFn.{length-map-range_with_len, get_or-map-range_with_len, map-range_with_len_more}
 use Rattle.std.proofs.lemmas.Option.{slice_get_within, get_or_from_slice_get}
@@ -12,6 +15,11 @@ use Rattle.guest_script.specs.Programs.{program_at}
 use Rattle.vsm_report.specs.Acting.{opening_vp, opening_vps}
 use Rattle.vsm_run.specs.Fits.{Fits, FitsOne}
 use Rattle.vsm_base.specs.declared.places.Limits.{Limits}
+use Rattle.vsm_core.specs.Words.{busy_at}
+use Rattle.vsm_core.specs.Partition.{opening_standing}
+use Rattle.fabric.specs.Plain.{opening_plain}
+use Rattle.partition.specs.PartView.{opening_view}
+use Rattle.vsm_run.specs.Serving.{Agrees, IsPacedBy}
 use Rattle.vsm_run.specs.Rests.{AllIdle, HasMarkLeft, IsInPlace}
 use Rattle.vsm_run.proofs.Acts.{AllInPlace, program_here}
 
@@ -19,6 +27,20 @@ pub all_idle : (n : ℕ) → AllIdle (replicate n Idle)
 all_idle zero p = refl
 all_idle (suc n) zero = refl
 all_idle (suc n) (suc p) = all_idle n p
+
+-- all words between the masks and the memory are 0
+pub first-agrees : (limits : Limits) (masks memory : List ℕ) → length masks ≡ limits.pages → Agrees limits (opening_plain limits masks memory).fabric
+first-agrees limits masks memory all = λ q low idle.
+    let zeros : List ℕ = replicate (1 + 10 * limits.vps) 0 in
+    let many = length-replicate {A = ℕ} (1 + 10 * limits.vps) 0 in
+    let at : busy_at limits q - limits.pages ≡ 1 + q = omega arith in
+    get_or-append_right masks (zeros ++ memory) limits.pages (busy_at limits q) 0 all (omega arith) ∙ ap (λ i. slice_index (zeros ++ memory) i) at ∙ get_or-append zeros memory 0 (1 + q) (omega arith) ∙ get_or-replicate (1 + 10 * limits.vps) (1 + q) 0 0 (omega arith)
+
+-- before the first entry, nothing was turned, and all processors count as cleared
+pub first-paced : (limits : Limits) (masks memory opening : List ℕ) (started : ℕ) → length opening ≡ limits.pages → IsPacedBy (opening_view limits opening started) (opening_plain limits masks memory)
+first-paced limits masks memory opening started all =
+    let many : length (opening_view limits opening started).state.vps ≡ limits.vps = length-map-range_with_len (opening_standing started) 0 limits.vps in
+    record { vps = sym many; pages = sym all; turns = refl; cleared = sym many }
 
 -- one processor more
 pub opening-more : (s : Script) (p : ℕ) (program : Program) (v : Vp) (vps : List Vp) → p < length s.programs → program ≡ get_or s.programs p program

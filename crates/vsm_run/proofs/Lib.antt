@@ -4,6 +4,7 @@ pub mod AtOnce
 pub mod Attempts
 pub mod Blocks
 pub mod Budgets
+mod BusyWords
 pub mod Finishes
 pub mod First
 pub mod Reports

@@ -1,7 +1,7 @@
 -- One turn of an attempt.
-use Rattle.std.proofs.Common.{◌≡◌, ◌≢◌, ◌≤◌, ◌+◌, ℕ, Option, Some, None, IfSome, List, [], ◌∷◌, ◌++◌, length, map, take, drop, get_or, slice_set, refl, sym, ap, ◌∙◌, append_assoc, length-append, length-drop, arith}
+use Rattle.std.proofs.Common.{◌≡◌, ◌≢◌, ◌<◌, ◌≤◌, ◌+◌, ℕ, Option, Some, None, IfSome, List, [], ◌∷◌, ◌++◌, length, map, take, drop, reverse, get_or, slice_set, refl, sym, ap, subst, ◌∙◌, append_assoc, length-append, length-drop, arith}
 use Rattle.std.proofs.Math.Seq.{drop-append_seam}
-use Rattle.std.proofs.lemmas.List.{drop-append-le, length-map, length-take-le, map-append, get_or-set_other}
+use Rattle.std.proofs.lemmas.List.{reverse-append, drop-append-le, length-map, length-take-le, map-append, get_or-set_other}
 use Rattle.vsm_base.specs.declared.places.Limits.{Limits}
 use Rattle.vsm_core.specs.declared.event.Event.{Event}
 use Rattle.vsm_core.specs.declared.event.Event.TheVariants as events
@@ -12,20 +12,24 @@ use Rattle.vsm_core.specs.declared.mark.What.{What}
 use Rattle.vsm_core.specs.declared.mark.What.TheVariants.{Again}
 use Rattle.vsm_core.specs.declared.operation.Op.{Op}
 use Rattle.vsm_core.specs.declared.partition_state.PartitionState.{PartitionState}
+use Rattle.vsm_core.specs.Entries.{words_by_entries}
 use Rattle.vsm_core.specs.Outcomes.{Outcome}
 use Rattle.vsm_core.specs.declared.request.Heard.{Heard}
 use Rattle.vsm_core.specs.declared.request.Request.{Request}
 use Rattle.vsm_core.specs.Processor.{Vp, Did, IsSameProcessor, saw, came_to, does_all, marked_or_ended, settled, origin_of, rest_of, tree_of}
 use Rattle.vsm_core.specs.Seat.{Seat, Fabric, Makes, fabric_after, told_after}
+use Rattle.vsm_core.specs.Sound.{Sound, IsOver}
 use Rattle.vsm_core.specs.Steps.{made, learned, phase_after}
 use Rattle.vsm_core.specs.Tree.{Tree, Ends, Asks, Wants, WordStep, after, followed}
-use Rattle.vsm_core.specs.Words.{answer_of, words_by}
+use Rattle.vsm_core.specs.Words.{answer_of, busy_at, words_by}
 use Rattle.vsm_core.proofs.Bounds.{followed-append}
 use Rattle.cpu.specs.declared.cpu_turn.CpuTurn.{CpuTurn}
 use Rattle.cpu.specs.declared.cpu_turn.CpuTurn.TheVariants as turns
 use Rattle.cpu.specs.Turns.{TurnsBy, after_mark, answer_at}
 use Rattle.vsm_run.specs.Rests.{IsAtRest}
-use Rattle.vsm_run.specs.Wholes.{HasHeard, Moves, Stops, Hands, Leads}
+use Rattle.vsm_run.specs.Serving.{Agrees}
+use Rattle.vsm_run.specs.Wholes.{HasHeard, StaysSound, Moves, Stops, Hands, Leads}
+use Rattle.vsm_run.proofs.BusyWords.{step-agrees}
 
 -- the places of a processor's events are in order
 pub record IsOrdered (v : Vp) : Type 0 where
@@ -99,7 +103,7 @@ came_to-rests _ v o le = refl
 module _ (limits : Limits) (p : ℕ) (op : Option Op) where
   -- a tree is done from this processor on
   abbrev does : PartitionState → Vp → List ℕ → Tree Outcome → Did (List ℕ)
-  does ps v words t = does_all (answer_of limits p) (words_by limits p) ps op v words t
+  does ps v words t = does_all (answer_of limits p) (words_by limits p) (words_by_entries limits) ps op v words t
 
   does-step : (ps : PartitionState) (s : WordStep) (k : ℕ → Tree Outcome) (v : Vp) (words : List ℕ) (x : ℕ) → x ≡ answer_of limits p words s
       → does ps (saw op v (made s x)) (words_by limits p words s) (k x) ≡ does ps v words (Asks s k)
@@ -116,6 +120,11 @@ module _ (limits : Limits) (p : ℕ) (op : Option Op) where
     left : after (rest_of v op) x ≡ k x
     left = ap (λ t. after t x) rest
 
+    still-sound : Sound limits IsOver (reverse (drop v.first v.seen)) (Asks s k) → StaysSound limits op m
+    still-sound h =
+        let events : reverse (drop m.first m.seen) ≡ made s x ∷ reverse (drop v.first v.seen) = ap reverse (saw-events op v (made s x) is) ∙ reverse-append (drop v.first v.seen) (made s x ∷ []) in
+        subst (λ es. Sound limits IsOver es (rest_of m op)) (sym events) (subst (Sound limits IsOver (made s x ∷ reverse (drop v.first v.seen))) (sym (goes_on ∙ left)) (h.1 x))
+
     moved : n ≡ m → Moves limits p op v n words (words_by limits p words s)
     moved new =
         let sees = saw-sees op v (made s x) is in
@@ -129,6 +138,7 @@ module _ (limits : Limits) (p : ℕ) (op : Option Op) where
           ended = sees.ended;
           heard = saw-heard op v (made s x);
           nearer = sees.nearer;
+          sound = λ h. still-sound (subst (Sound limits IsOver (reverse (drop v.first v.seen))) rest h);
         })
 
     stopped : (o : Outcome) → k x ≡ Ends o → n ≡ settled (Ends o) m → Stops limits p op v n words (words_by limits p words s)
@@ -170,6 +180,8 @@ record Stepped (limits : Limits) (p : ℕ) (s : WordStep) (x : ℕ) (phase : Pha
   answer : x ≡ answer_of limits p f.words s
   words : g.words ≡ words_by limits p f.words s
   phases : g.phases ≡ slice_set f.phases p (phase_after phase s x)
+  turns : g.turns ≡ f.turns
+  cleared : g.cleared ≡ f.cleared
 
 makes-told : (limits : Limits) (p : ℕ) (s : WordStep) (x : ℕ) (before now : Seat) (f g : Fabric) → Tells limits p before now f g → Makes before s x now → Stepped limits p s x before.phase f g
 makes-told limits p s x before now f g t makes =
@@ -181,6 +193,8 @@ makes-told limits p s x before now f g t makes =
       answer = rw (t.limits_same, t.number) at answer;
       words = ap (λ (z : Fabric). z.words) is ∙ rw (t.limits_same, t.number) refl;
       phases = ap (λ (z : Fabric). z.phases) is ∙ ap (λ q. slice_set f.phases q (phase_after before.phase s x)) t.number;
+      turns = ap (λ (z : Fabric). z.turns) is;
+      cleared = ap (λ (z : Fabric). z.cleared) is;
     }
 
 leads-moves : (turn : CpuTurn) (limits : Limits) (p : ℕ) (op : Option Op) (v n : Vp) (words now : List ℕ) → turn ≡ turns.Moved → Moves limits p op v n words now → Leads turn limits p op v n words now
@@ -193,6 +207,11 @@ leads-stops what None turn limits p op v n words now e stops = rw e stops
 
 leads-hands : (q : Request) (turn : CpuTurn) (limits : Limits) (p : ℕ) (op : Option Op) (v n : Vp) (words now : List ℕ) → turn ≡ turns.Wants q → Hands q op v n words now → Leads turn limits p op v n words now
 leads-hands q turn limits p op v n words now e hands = rw e hands
+
+-- the turns and the cleared processors are as they were
+pub record SameParts (f g : Fabric) : Type 0 where
+  pub turns : g.turns ≡ f.turns
+  pub cleared : g.cleared ≡ f.cleared
 
 module _ (limits : Limits) (p : ℕ) (op : Option Op) (v n : Vp) (before now : Seat) (f g : Fabric) (turn : CpuTurn) (t : Tells limits p before now f g) (is : IsOrdered v) where
   -- where a step has led to this rest
@@ -232,3 +251,26 @@ module _ (limits : Limits) (p : ℕ) (op : Option Op) (v n : Vp) (before now : S
   -- no other processor's phase changes
   pub turn-phases : TurnsBy (rest_of v op) op v before n now turn → (phases : List Phase) → g.phases ≡ phases → (q : ℕ) → q ≢ p → get_or phases q Idle ≡ get_or f.phases q Idle
   turn-phases turned phases e q apart = rw (← e) (phases-at (rest_of v op) turned q apart)
+
+  same-parts : now ≡ before → SameParts f g
+  same-parts e = let same = same-fabric e in record { turns = ap (λ (z : Fabric). z.turns) same; cleared = ap (λ (z : Fabric). z.cleared) same }
+
+  parts-at : (tree : Tree Outcome) → TurnsBy tree op v before n now turn → SameParts f g
+  parts-at (Ends o) turned = same-parts turned.0
+  parts-at (Asks s k) turned = let step = makes-told limits p s turned.0 before now f g t turned.1 in record { turns = step.turns; cleared = step.cleared }
+  parts-at (Wants r k) turned = same-parts turned.0
+
+  -- a processor neither turns nor clears
+  pub turn-parts : TurnsBy (rest_of v op) op v before n now turn → SameParts f g
+  turn-parts turned = parts-at (rest_of v op) turned
+
+  agrees-at : (tree : Tree Outcome) → before.phase ≡ get_or f.phases p Idle → p < length f.phases → busy_at limits p < length f.words → TurnsBy tree op v before n now turn → Agrees limits f → Agrees limits g
+  agrees-at (Ends o) phase low long turned agrees = rw (same-fabric turned.0) agrees
+  agrees-at (Asks s k) phase low long turned agrees =
+      let step = makes-told limits p s turned.0 before now f g t turned.1 in
+      step-agrees limits p s turned.0 f g low long step.words (step.phases ∙ ap (λ ph. slice_set f.phases p (phase_after ph s turned.0)) phase) agrees
+  agrees-at (Wants r k) phase low long turned agrees = rw (same-fabric turned.0) agrees
+
+  -- a busy word is 0 in no access, as before
+  pub turn-agrees : before.phase ≡ get_or f.phases p Idle → p < length f.phases → busy_at limits p < length f.words → TurnsBy (rest_of v op) op v before n now turn → Agrees limits f → Agrees limits g
+  turn-agrees phase low long turned agrees = agrees-at (rest_of v op) phase low long turned agrees

@@ -1,13 +1,15 @@
 // One processor acts.
-ghost use Rattle.std.specs.Prelude.{◌≡◌, ◌≢◌, ℕ, ◌+◌, ◌<◌, ◌≤◌, [], ◌∷◌, ◌++◌, length, map, get_or, true, false, None};
+ghost use Rattle.std.specs.Prelude.{◌≡◌, ◌≢◌, ℕ, ◌+◌, ◌*◌, ◌≤◌, ◌<◌, [], ◌∷◌, ◌++◌, length, map, get_or, true, false, None};
+ghost use Rattle.vsm_core.specs.Entries.{words_by_entries};
 ghost use Rattle.vsm_core.specs.Processor.{operation_at, standing};
+ghost use Rattle.vsm_core.specs.Protection.{IsSlice, owed};
 ghost use Rattle.vsm_core.specs.Served.{answer, block};
-ghost use Rattle.cpu.specs.Turns.{OwesBy, phase_at};
+ghost use Rattle.cpu.specs.Turns.{HandsSlice, OwesBy, phase_at};
 ghost use Rattle.vsm_report.specs.Acting.{attempt_lines, entry_line, mark_line};
 ghost use Rattle.vsm_report.specs.Trace.{made_steps};
 ghost use Rattle.vsm_run.specs.Fits.{FitsOne};
 ghost use Rattle.vsm_run.specs.Rests.{AllIdle, IsAtRest, IsInPlace};
-ghost use Rattle.vsm_run.specs.Serving.{IsDone, IsFree, with_served};
+ghost use Rattle.vsm_run.specs.Serving.{AddsFew, Agrees, HasRoomForOne, IsDone, IsFree, IsPacedBy, NoneBusy, with_served};
 ghost use Rattle.vsm_run.specs.Wholes.{HasHeard, Leads};
 
 use cpu::{Cpu, CpuTurn};
@@ -33,6 +35,10 @@ fn turn_at(fabric: &mut PlainFabric, cpu: &mut Cpu, program: &Program) -> CpuTur
     ensures others { (q : ℕ) → q ≢ cpu.old.number → get_or fabric.new.fabric.phases q Phase.Idle ≡ get_or fabric.old.fabric.phases q Phase.Idle }
     ensures first { cpu.new.first ≤ length cpu.new.seen }
     ensures few { length cpu.new.seen ≤ cpu.new.first + 38 }
+    ensures slices { HandsSlice result }
+    ensures agrees { Agrees fabric.old.limits fabric.old.fabric → Agrees fabric.old.limits fabric.new.fabric }
+    ensures turns { fabric.new.fabric.turns ≡ fabric.old.fabric.turns }
+    ensures cleared { fabric.new.fabric.cleared ≡ fabric.old.fabric.cleared }
 {
     let vp = cpu.vp();
     let mut port = fabric.port(vp);
@@ -41,21 +47,32 @@ fn turn_at(fabric: &mut PlainFabric, cpu: &mut Cpu, program: &Program) -> CpuTur
     turn
 }
 
-// Lets the partition serve a request at once: it adds one entry, with no step on the words.
+// Lets the partition serve a request at once: it adds its entries one by one, each with its step on the words. No
+// processor is in an access meanwhile, so that none is found busy.
 fn serve(partition: &mut Partition, fabric: &mut PlainFabric, request: Request) -> Reply
-    requires free { partition.old.under ≡ None }
+    requires free { IsFree fabric.old.limits partition.old }
+    requires paced { IsPacedBy partition.old fabric.old }
     requires by { request.by.0 < length partition.old.state.vps }
-    requires room { length partition.old.journal.entries < partition.old.journal.room }
+    requires slice { IsSlice request.call }
+    requires room { length partition.old.journal.entries + length (block partition.old.state request) ≤ partition.old.journal.room }
+    requires idle { NoneBusy fabric.old.limits fabric.old.fabric.words }
     ensures reply { result ≡ answer partition.old.state request }
     ensures done { result.done < 4096 }
     ensures served { partition.new ≡ with_served partition.old ((request, block partition.old.state request) ∷ []) }
-    ensures fabric { fabric.new ≡ fabric.old }
+    ensures limits { fabric.new.limits ≡ fabric.old.limits }
+    ensures phases { fabric.new.fabric.phases ≡ fabric.old.fabric.phases }
+    ensures words { fabric.new.fabric.words ≡ words_by_entries fabric.old.limits fabric.old.fabric.words (block partition.old.state request) }
+    ensures idle { NoneBusy fabric.old.limits fabric.new.fabric.words }
+    ensures paced { IsPacedBy partition.new fabric.new }
 {
     partition.begin(request);
-    let PartTurn::Done(reply) = partition.turn(&mut fabric.steward()) else {
-        unreachable!()
-    };
-    reply
+    'entries: loop {
+        match partition.turn(&mut fabric.steward()) {
+            PartTurn::Moved => {}
+            PartTurn::Busy(_) => unreachable!(),
+            PartTurn::Done(reply) => return reply,
+        }
+    }
 }
 
 // Lets a processor make its attempt to the end: its steps, and on with the reply to its request, if it has one. No other
@@ -65,13 +82,18 @@ fn attempt_at(fabric: &mut PlainFabric, partition: &mut Partition, cpu: &mut Cpu
     requires place { IsInPlace fabric.old.limits cpu.old.number cpu.old }
     requires fits { FitsOne program.now cpu.old }
     requires idle { AllIdle fabric.old.fabric.phases }
-    requires free { IsFree fabric.old.limits.vps partition.old }
-    requires room { length partition.old.journal.entries < partition.old.journal.room }
+    requires free { IsFree fabric.old.limits partition.old }
+    requires paced { IsPacedBy partition.old fabric.old }
+    requires agrees { Agrees fabric.old.limits fabric.old.fabric }
+    requires room { HasRoomForOne partition.old }
     ensures done { IsDone (made_steps program.now cpu.old partition.old.state fabric.old.fabric.words) cpu.new fabric.new.fabric.words partition.old partition.new }
+    ensures few { AddsFew (length partition.old.state.vps + 11) (made_steps program.now cpu.old partition.old.state fabric.old.fabric.words) partition.old partition.new }
     ensures limits { fabric.new.limits ≡ fabric.old.limits }
     ensures rests { IsAtRest cpu.new }
     ensures unheard { cpu.new.heard ≡ None }
     ensures idle { AllIdle fabric.new.fabric.phases }
+    ensures agrees { Agrees fabric.old.limits fabric.new.fabric }
+    ensures paced { IsPacedBy partition.new fabric.new }
 {
     'turns: loop {
         match turn_at(fabric, cpu, program) {
@@ -108,7 +130,7 @@ fn add_marks(lines: &mut Reserved<Line>, vp: VpIndex, marks: &[Mark])
     }
 }
 
-/// Lets a processor that runs act: it makes a whole attempt, and the lines of the entry and of the mark that this leaves
+/// Lets a processor that runs act: it makes a whole attempt, and the lines of the entries and of the mark that this leaves
 /// are added.
 pub fn act_at(
     fabric: &mut PlainFabric,
@@ -121,19 +143,23 @@ pub fn act_at(
     requires place { IsInPlace fabric.old.limits cpu.old.number cpu.old }
     requires fits { FitsOne program.now cpu.old }
     requires idle { AllIdle fabric.old.fabric.phases }
-    requires free { IsFree fabric.old.limits.vps partition.old }
-    requires entries { length partition.old.journal.entries < partition.old.journal.room }
-    requires room { length lines.old.0 + 2 ≤ lines.old.1 }
+    requires free { IsFree fabric.old.limits partition.old }
+    requires paced { IsPacedBy partition.old fabric.old }
+    requires agrees { Agrees fabric.old.limits fabric.old.fabric }
+    requires entries { HasRoomForOne partition.old }
+    requires room { length lines.old.0 + (length partition.old.state.vps + 12) + owed partition.old.state ≤ lines.old.1 }
     ensures done { IsDone (made_steps program.now cpu.old partition.old.state fabric.old.fabric.words) cpu.new fabric.new.fabric.words partition.old partition.new }
     ensures lines { lines.new ≡ (lines.old.0 ++ attempt_lines cpu.old.number (made_steps program.now cpu.old partition.old.state fabric.old.fabric.words).served cpu.old cpu.new, lines.old.1) }
-    ensures grows { length lines.new.0 ≤ length lines.old.0 + 2 }
-    ensures spends { length partition.new.journal.entries + length (standing cpu.old) ≤ length partition.old.journal.entries + length (standing cpu.new) }
+    ensures grows { length lines.new.0 + owed partition.new.state ≤ length lines.old.0 + owed partition.old.state + (length partition.old.state.vps + 12) }
+    ensures spends { length partition.new.journal.entries + owed partition.new.state + (length partition.old.state.vps + 11) * length (standing cpu.old) ≤ length partition.old.journal.entries + owed partition.old.state + (length partition.old.state.vps + 11) * length (standing cpu.new) }
     ensures marks { length (standing cpu.new) ≤ length (standing cpu.old) + 1 }
     ensures limits { fabric.new.limits ≡ fabric.old.limits }
     ensures place { IsInPlace fabric.old.limits cpu.old.number cpu.new }
     ensures fits { FitsOne program.now cpu.new }
     ensures idle { AllIdle fabric.new.fabric.phases }
-    ensures free { IsFree fabric.old.limits.vps partition.new }
+    ensures agrees { Agrees fabric.old.limits fabric.new.fabric }
+    ensures paced { IsPacedBy partition.new fabric.new }
+    ensures free { IsFree fabric.old.limits partition.new }
 {
     let vp = cpu.vp();
     let stood = cpu.standing();

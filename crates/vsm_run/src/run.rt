@@ -3,11 +3,14 @@ ghost use Rattle.std.specs.Prelude.{◌≡◌, ◌+◌, ◌*◌, ◌≤◌, IfOk
 ghost use Rattle.guest_script.specs.Schedules.{all_turns, turns_of};
 ghost use Rattle.guest_script.specs.Within.{IsWithin};
 ghost use Rattle.vsm_core.specs.Blocks.{IsWhole};
+ghost use Rattle.vsm_core.specs.Journal.{masks};
 ghost use Rattle.vsm_core.specs.Partition.{opening_partition};
+ghost use Rattle.vsm_core.specs.Protection.{owed};
 ghost use Rattle.vsm_core.specs.Served.{AreServed, joined};
 ghost use Rattle.vsm_core.specs.Words.{memory_at};
 ghost use Rattle.vsm_report.specs.Acting.{report_with};
 ghost use Rattle.vsm_report.specs.FlatRun.{flat, served};
+ghost use Rattle.vsm_report.specs.Opening.{opening_masks};
 ghost use Rattle.vsm_report.specs.Schedule.{after_line, after_schedule, after_turns};
 ghost use Rattle.vsm_report.specs.Trace.{stepped, stepped_opening, stepped_report, traced};
 ghost use Rattle.vsm_run.specs.Fits.{Fits};
@@ -51,9 +54,9 @@ impl Run {
     #[tactic(auto, unfolding(vsm_report::specs::Trace::stepped))]
     fn act(&mut self, programs: &[Program], vp: VpIndex)
         requires fits { Fits programs.now self.old.world.vps }
-        requires room { length self.old.world.lines + 2 ≤ self.old.room }
+        requires room { length self.old.world.lines + owed self.old.world.partition.state + (self.old.limits.vps + 12) ≤ self.old.room }
         ensures acts { self.new.world ≡ stepped programs.now vp.0 self.old.world }
-        ensures grows { length self.new.world.lines ≤ length self.old.world.lines + 2 }
+        ensures grows { length self.new.world.lines + owed self.new.world.partition.state ≤ length self.old.world.lines + owed self.old.world.partition.state + (self.old.limits.vps + 12) }
         ensures fits { Fits programs.now self.new.world.vps }
         ensures room { self.new.room ≡ self.old.room }
         ensures limits { self.new.limits ≡ self.old.limits }
@@ -77,9 +80,9 @@ impl Run {
     /// The processor of this number acts so many times.
     fn turns(&mut self, programs: &[Program], vp: VpIndex, count: u32)
         requires fits { Fits programs.now self.old.world.vps }
-        requires room { length self.old.world.lines + 2 * count ≤ self.old.room }
+        requires room { length self.old.world.lines + owed self.old.world.partition.state + (self.old.limits.vps + 12) * count ≤ self.old.room }
         ensures acts { self.new.world ≡ after_turns (stepped programs.now vp.0) count self.old.world }
-        ensures grows { length self.new.world.lines ≤ length self.old.world.lines + 2 * count }
+        ensures grows { length self.new.world.lines + owed self.new.world.partition.state ≤ length self.old.world.lines + owed self.old.world.partition.state + (self.old.limits.vps + 12) * count }
         ensures fits { Fits programs.now self.new.world.vps }
         ensures room { self.new.room ≡ self.old.room }
         ensures limits { self.new.limits ≡ self.old.limits }
@@ -93,9 +96,9 @@ impl Run {
     #[tactic(auto, unfolding(vsm_report::specs::Schedule::after_line))]
     fn line(&mut self, programs: &[Program], entries: &[Turns])
         requires fits { Fits programs.now self.old.world.vps }
-        requires room { length self.old.world.lines + 2 * turns_of entries.now ≤ self.old.room }
+        requires room { length self.old.world.lines + owed self.old.world.partition.state + (self.old.limits.vps + 12) * turns_of entries.now ≤ self.old.room }
         ensures acts { self.new.world ≡ after_line (stepped programs.now) self.old.world entries.now }
-        ensures grows { length self.new.world.lines ≤ length self.old.world.lines + 2 * turns_of entries.now }
+        ensures grows { length self.new.world.lines + owed self.new.world.partition.state ≤ length self.old.world.lines + owed self.old.world.partition.state + (self.old.limits.vps + 12) * turns_of entries.now }
         ensures fits { Fits programs.now self.new.world.vps }
         ensures room { self.new.room ≡ self.old.room }
         ensures limits { self.new.limits ≡ self.old.limits }
@@ -109,7 +112,7 @@ impl Run {
     #[tactic(auto, unfolding(vsm_report::specs::Schedule::after_schedule))]
     fn schedule(&mut self, programs: &[Program], lines: &[Items<Turns>])
         requires fits { Fits programs.now self.old.world.vps }
-        requires room { length self.old.world.lines + 2 * all_turns lines.now ≤ self.old.room }
+        requires room { length self.old.world.lines + owed self.old.world.partition.state + (self.old.limits.vps + 12) * all_turns lines.now ≤ self.old.room }
         ensures acts { self.new.world ≡ after_schedule (stepped programs.now) self.old.world lines.now }
         ensures fits { Fits programs.now self.new.world.vps }
         ensures limits { self.new.limits ≡ self.old.limits }
@@ -136,12 +139,24 @@ impl Run {
     }
 }
 
-// A run before its first turn, with room for the lines of each turn, which are two where a request is served.
+// How many lines so many turns may leave.
+fn lines_of(limits: &Limits, turns: usize) -> usize
+    requires vps { limits.now.vps ≤ 8 }
+    requires pages { limits.now.pages ≤ 256 }
+    requires turns { turns ≤ 100000 }
+    ensures { result ≡ (limits.now.vps + 12) * turns + limits.now.pages }
+{
+    let each = limits.vps as usize + 12;
+    each * turns + limits.pages as usize
+}
+
+// A run before its first turn, with room for the lines of each turn: that of its mark, those of the entries of one request, and
+// once one more for each page.
 #[tactic(auto, unfolding(vsm_report::specs::Trace::stepped_opening, vsm_report::specs::Trace::opening_shared))]
 fn opened(alloc: Global, script: &Script) -> Result<Run, Memory>
     requires { IsWithin script.now }
     ensures world { IfOk result (λ run. run.world ≡ stepped_opening script.now) }
-    ensures room { IfOk result (λ run. length run.world.lines + 2 * all_turns script.now.schedule ≤ run.room) }
+    ensures room { IfOk result (λ run. length run.world.lines + owed run.world.partition.state + (script.now.limits.vps + 12) * all_turns script.now.schedule ≤ run.room) }
     ensures limits { IfOk result (λ run. run.limits ≡ script.now.limits) }
     ensures fits { IfOk result (λ run. Fits script.now.programs run.world.vps) }
 {
@@ -150,7 +165,9 @@ fn opened(alloc: Global, script: &Script) -> Result<Run, Memory>
     let fabric = PlainFabric::new(alloc, &script.limits, &masks, &words)?;
     let partition = Partition::new(alloc, &script.limits, &masks, script.started)?;
     let cpus = opening_cpus(alloc, script)?;
-    let lines = Reserved::new(alloc, 2 * all_turns(script.schedule.as_slice()))?;
+    let turns = all_turns(script.schedule.as_slice());
+    let room = lines_of(&script.limits, turns);
+    let lines = Reserved::new(alloc, room)?;
     Ok(Run {
         fabric,
         partition,
@@ -160,16 +177,18 @@ fn opened(alloc: Global, script: &Script) -> Result<Run, Memory>
 }
 
 /// The report of a script's run, which is the same whether each attempt is made at once or step by step on the
-/// shared words. What an attempt asks of the partition is served at once, in the state that the requests before it leave.
-/// The journal has the entries that these requests add, and is whole. All memory is taken before the first turn; the
-/// only error is want of it.
+/// shared words. What an attempt asks of the partition is served at once, in the state that the requests before it leave,
+/// with the step of each entry that it adds. The journal has the entries that these requests add, and is whole, and the
+/// masks are the opening masks with its asks applied. All memory is taken before the first turn; the only error is want
+/// of it.
 pub fn trace(alloc: Global, script: &Script) -> Result<Report, Memory>
     requires { IsWithin script.now }
     ensures at_once { IfOk result (λ report. report ≡ flat script.now) }
     ensures by_steps { IfOk result (λ report. report ≡ traced script.now) }
-    ensures served { IfOk result (λ report. AreServed (opening_partition script.now.limits.vps script.now.started) (served script.now)) }
+    ensures served { IfOk result (λ report. AreServed (opening_partition script.now.limits script.now.started) (served script.now)) }
     ensures journal { IfOk result (λ report. report.journal ≡ joined (served script.now)) }
     ensures whole { IfOk result (λ report. IsWhole script.now.limits.vps report.journal) }
+    ensures masks { IfOk result (λ report. report.masks ≡ masks (opening_masks script.now) report.journal) }
 {
     let mut run = opened(alloc, script)?;
     let rooms = Rooms::new(alloc, &script.limits)?;

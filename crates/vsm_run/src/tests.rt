@@ -22,6 +22,22 @@ const ENABLES_TWICE: &[u8] = b"vsm 1\nvps 1\npages 1\nbudget 10\nstarted 1\n\
 program 0 0\nset Rcx 0x1000d\nset Rdx 0xffffffffffffffff\nset R8 1\nhypercall\nhypercall\n\
 schedule 0*5\nend\n";
 
+// Processor 0 flushes what all processors have cached, and processor 1 reads a word after it.
+const FLUSHES: &[u8] = b"vsm 1\nvps 2\npages 2\nbudget 10\nstarted 2\n\
+program 0 0\nset Rcx 2\nset Rdx 0x1000\nhypercall\nprogram 1 0\nload Rax 0x1000\n\
+schedule 0*3 1\nend\n";
+
+// Level 1 turns protection on for all pages, and then protects page 2.
+const PROTECTS: &[u8] = b"vsm 1\nvps 1\npages 4\nbudget 20\nstarted 1\n\
+word 1 0 0xffffffffffffffff\nword 1 1 0x1fffffffe\n\
+word 2 0 0xffffffffffffffff\nword 2 1 0xfffffffe\nword 2 2 0xd0007\nword 2 4 0x1f\n\
+word 3 0 0xffffffffffffffff\nword 3 1 0x1000000001\nword 3 2 2\n\
+program 0 0\nset Rcx 0x1000d\nset Rdx 0xffffffffffffffff\nset R8 1\nhypercall\n\
+set Rcx 0xf\nset Rdx 0x1000\nhypercall\nset Rcx 0\nvtlcall\n\
+program 0 1\nset Rcx 0x100000051\nset Rdx 0x2000\nhypercall\n\
+set Rcx 0x10000000c\nset Rdx 0x3000\nhypercall\n\
+schedule 0*15\nend\n";
+
 fn run(alloc: Global, script: &[u8]) -> Result<Report, Fail> {
     let script = read(alloc, script).or(Err("no script"))?;
     let report = trace(alloc, &script).or(Err("no memory"))?;
@@ -143,5 +159,64 @@ fn the_line_of_an_entry_comes_before_that_of_the_mark(rt: HostRuntime) -> Result
     ];
     assert_eq!(rt; report.lines.len(), 7);
     assert_eq!(rt; &report.lines.as_slice()[3..], lines.as_slice());
+    Ok(())
+}
+
+#[test]
+fn a_round_clears_each_processor_before_its_report(rt: HostRuntime) -> Result<(), Fail> {
+    let report = run(rt.alloc(), FLUSHES)?;
+    let by = VpIndex(0);
+    let seen = Grant {
+        page: Page(1),
+        mask: Some(Mask::all()),
+        generation: 1,
+        value: 0,
+        hit: false,
+    };
+    let lines = [
+        Line::Entry(Entry::Turn { round: 1, by }),
+        Line::Entry(Entry::Clear { vp: VpIndex(0) }),
+        Line::Entry(Entry::Clear { vp: VpIndex(1) }),
+        Line::Entry(Entry::Report { round: 1 }),
+        Line::Mark(by, mark(2, What::Reply(0), 0, 7)),
+        Line::Mark(VpIndex(1), mark(0, What::Granted(seen), 0, 5)),
+    ];
+    assert_eq!(rt; report.lines.len(), 8);
+    assert_eq!(rt; &report.lines.as_slice()[2..], lines.as_slice());
+    Ok(())
+}
+
+fn ask(page: u32, mask: Mask) -> Entry {
+    Entry::Ask {
+        page: Page(page),
+        mask,
+    }
+}
+
+#[test]
+fn protection_asks_for_each_page_and_then_for_one(rt: HostRuntime) -> Result<(), Fail> {
+    let report = run(rt.alloc(), PROTECTS)?;
+    let by = VpIndex(0);
+    let all = Mask::all();
+    let read = Mask::of(1).ok_or("mask")?;
+    let entries = [
+        Entry::Enable { by },
+        Entry::Level { by, vp: by },
+        Entry::Config { by, value: 0x1f },
+        ask(0, all),
+        ask(1, all),
+        ask(2, all),
+        ask(3, all),
+        Entry::Turn { round: 1, by },
+        Entry::Clear { vp: by },
+        Entry::Report { round: 1 },
+        ask(2, read),
+        Entry::Turn { round: 2, by },
+        Entry::Clear { vp: by },
+        Entry::Report { round: 2 },
+    ];
+    assert_eq!(rt; report.journal.as_slice(), entries.as_slice());
+    let masks = [all, all, read, all];
+    assert_eq!(rt; report.masks.as_slice(), masks.as_slice());
     Ok(())
 }

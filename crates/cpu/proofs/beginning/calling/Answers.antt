@@ -1,4 +1,4 @@
-use Rattle.std.proofs.Common.{sym, ap, ◌∙◌, [], refl}
+use Rattle.std.proofs.Common.{sym, ap, ◌∙◌, []}
 use Rattle.vsm_core.specs.State.{State}
 use Rattle.vsm_core.specs.Outcomes.{Origin}
 use Rattle.vsm_core.specs.Switch.{may_call, called, assist_page}

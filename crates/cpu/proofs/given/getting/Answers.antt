@@ -5,13 +5,15 @@ use Rattle.rep_frame.specs.Frames.{Frame}
 use Rattle.cpu.proofs.SliceRests.{get-looks, get-puts}
 use Rattle.cpu.proofs.given.getting.Goals as goal
 
-pub returns-then-is_look-clause-rest : goal.returns-then-is_look-clause-rest
-returns-then-is_look-clause-rest c = λ from op tree vps number state page rest.
+pub returns-in-Some-look_in-clause-rest : goal.returns-in-Some-look_in-clause-rest
+returns-in-Some-look_in-clause-rest c = λ from op tree vps number state page rest.
     let i = c.args.input in
     let header = c.pair_of-header in
     let fine : first_failed (register_checks from.vps from.number i.level header.result) ≡ None = rw (vps, number) (sym c.register_refusal.ensures ∙ c.in_default.is) in
-    get-looks from i tree header.result c.slice_of-words.result c.new-frame.result c.args.site c.place_of-at.result c.requires.call c.requires.output
-    (record { all = c.requires.all; head = header.ensures; slice = c.slice_of-words.ensures; begun = c.new-frame.ensures; fine = fine }) c.place_of-at.ensures (sym c.is_look.ensures ∙ c.if-is_look.true) rest
+    let looks =
+    get-looks from i tree header.result c.slice_of-words.result c.target_level-target.result c.new-frame.result c.in-Some-look_in.register c.args.site c.place_of-at.result c.requires.call c.requires.output
+    (record { all = c.requires.all; head = header.ensures; slice = c.slice_of-words.ensures; begun = c.new-frame.ensures; fine = fine }) c.target_level-target.ensures c.place_of-at.ensures (rw c.in-Some-look_in.is at c.look_in.ensures) rest in
+    rw c.departing.ensures looks
 
 pub returns-clause-rest : goal.returns-clause-rest
 returns-clause-rest c = λ from op tree vps number state page rest.
@@ -21,7 +23,7 @@ returns-clause-rest c = λ from op tree vps number state page rest.
     let fine : first_failed (register_checks from.vps from.number i.level header.result) ≡ None = rw (vps, number) (sym c.register_refusal.ensures ∙ c.in_default.is) in
     c.getting_out.ensures.rest from op tree state
     (get-puts from i tree header.result c.slice_of-words.result target.result c.new-frame.result c.args.site c.place_of-at.result c.requires.call c.requires.output
-    (record { all = c.requires.all; head = header.ensures; slice = c.slice_of-words.ensures; begun = c.new-frame.ensures; fine = fine }) target.ensures c.place_of-at.ensures page (sym c.is_look.ensures ∙ c.if-is_look.false) rest)
+    (record { all = c.requires.all; head = header.ensures; slice = c.slice_of-words.ensures; begun = c.new-frame.ensures; fine = fine }) target.ensures c.place_of-at.ensures page (rw c.in_default-look_in.is at c.look_in.ensures) rest)
 
 pub returns-clause-is : goal.returns-clause-is
 returns-clause-is c = λ pages site room.

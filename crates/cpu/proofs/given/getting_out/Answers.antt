@@ -1,4 +1,4 @@
-use Rattle.std.proofs.Common.{◌≡◌, ◌∙◌, ◌+◌, ◌*◌, ◌-◌, ◌≤◌, ap, arith}
+use Rattle.std.proofs.Common.{ap, arith}
 use Rattle.rep_frame.specs.Frames.{Frame}
 use Rattle.cpu.proofs.SliceRests.{got-out}
 use Rattle.cpu.proofs.given.getting_out.Goals as goal

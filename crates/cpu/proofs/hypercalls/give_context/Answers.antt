@@ -1,4 +1,4 @@
-use Rattle.std.proofs.Common.{◌≡◌, true, refl, rules}
+use Rattle.std.proofs.Common.{◌≡◌, true, refl}
 use Rattle.vsm_core.specs.Contexts.{is_legal_context}
 use Rattle.cpu.proofs.ContextGiven.{context-given}
 use Rattle.cpu.proofs.hypercalls.give_context.Goals as goal

@@ -1,5 +1,4 @@
-use Rattle.std.proofs.Common.{◌≡◌, ◌∙◌, ◌==◌, true, refl, sym, arith}
-use Rattle.std.proofs.lemmas.Bool.Decides.{nat_tests}
+use Rattle.std.proofs.Common.{◌≡◌, ◌==◌, true, refl}
 use Rattle.vsm_core.specs.declared.operation.Op.TheVariants.{Hypercall}
 use Rattle.vsm_core.specs.Outcomes.{Origin}
 use Rattle.vsm_core.specs.State.{privilege_of}

@@ -1,4 +1,4 @@
-use Rattle.std.proofs.Common.{refl, sym, ap, ◌∙◌, ◌≡◌, Some, None}
+use Rattle.std.proofs.Common.{sym, ap, ◌∙◌, ◌≡◌, None}
 use Rattle.vsm_core.specs.Controllers.{message_page}
 use Rattle.vsm_core.specs.Outcomes.{Origin}
 use Rattle.vsm_core.specs.Switch.{may_enter}

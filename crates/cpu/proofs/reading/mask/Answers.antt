@@ -1,4 +1,4 @@
-use Rattle.std.proofs.Common.{rules, ◌≡◌, ◌∙◌, true, refl, sym}
+use Rattle.std.proofs.Common.{rules, ◌≡◌, ◌∙◌, true, sym}
 use Rattle.vsm_base.specs.Masks.{allows}
 use Rattle.vsm_base.specs.declared.places.Access.TheVariants.{Read}
 use Rattle.vsm_core.specs.Steps.{IsIn}

@@ -1,4 +1,4 @@
-use Rattle.std.proofs.Common.{rules, ◌≡◌, ◌<◌, ◌∙◌, length, refl, sym, arith}
+use Rattle.std.proofs.Common.{rules, ◌≡◌, ◌<◌, ◌∙◌, length, arith}
 use Rattle.cpu.specs.Inputs.{words_of}
 use Rattle.cpu.proofs.InputWords.{next-asks, next-rest}
 use Rattle.cpu.proofs.reading.read.Goals as goal

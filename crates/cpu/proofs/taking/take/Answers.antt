@@ -1,4 +1,4 @@
-use Rattle.std.proofs.Common.{rules, refl, sym, ap, ◌∙◌, subst}
+use Rattle.std.proofs.Common.{rules, sym, ap, ◌∙◌, subst}
 use Rattle.std.proofs.lemmas.List.{take_more_set}
 use Rattle.vsm_core.specs.Seat.{Seat}
 use Rattle.cpu.specs.Stages.{StageAt}

@@ -1,5 +1,11 @@
-use Rattle.vsm_core.proofs.SameAnswers.{attempt-same}
+use Rattle.vsm_core.proofs.SameAnswers.{attempt-same, attempt-in-step, attempt-journal}
 use Rattle.vsm_core.proofs.laws.attempts_are_whole.Goals as goal
 
-pub returns : goal.returns
-returns c = attempt-same
+pub returns-clause-same : goal.returns-clause-same
+returns-clause-same c = attempt-same
+
+pub returns-clause-in_step : goal.returns-clause-in_step
+returns-clause-in_step c = attempt-in-step
+
+pub returns-clause-journal : goal.returns-clause-journal
+returns-clause-journal c = attempt-journal

@@ -13,16 +13,16 @@ use Rattle.vsm_report.specs.Trace.{made_steps}
 use Rattle.vsm_run.specs.Fits.{FitsOne}
 use Rattle.vsm_run.specs.Rests.{IsAtRest, IsInPlace}
 use Rattle.vsm_run.proofs.Attempts.{AddsFew, made_steps-few, made_steps-fits, made_steps-pays, made_steps-place, made_steps-stands}
-use Rattle.vsm_run.proofs.Serves.{still-free, entries-few, entries-paid}
+use Rattle.vsm_run.proofs.Serves.{still-free, entries-few, entries-later, entries-paid}
 use Rattle.vsm_run.proofs.acting.act_at.Goals as goal
 
 few : (program : Program) (v n : Vp) (s : PartitionState) (words : List ℕ) (marks : List Mark) → n ≡ (made_steps program v s words).vp → marks ≡ n.marks → AddsFew (standing v) marks
 few program v n s words marks e m = rw (m, e) (made_steps-few program v s words)
 
 -- the entries are read before the attempt and after it
-entries-more : (old new : PartView) (first last : JournalView) (before entries : List Entry) → first ≡ old.journal → before ≡ first.entries → last ≡ new.journal → entries ≡ last.entries → length new.journal.entries ≤ length old.journal.entries + 1
-    → length (take (length entries - length before) (drop (length before) entries)) ≤ 1
-entries-more old new first last before entries f b l e few =
+entries-more : (old new : PartView) (first last : JournalView) (before entries : List Entry) → first ≡ old.journal → before ≡ first.entries → last ≡ new.journal → entries ≡ last.entries → length old.journal.entries ≤ length new.journal.entries
+    → length (take (length entries - length before) (drop (length before) entries)) + length old.journal.entries ≤ length new.journal.entries
+entries-more old new first last before entries f b l e later =
     let old_same : length before ≡ length old.journal.entries = ap length (b ∙ ap (λ (j : JournalView). j.entries) f) in
     let new_same : length entries ≡ length new.journal.entries = ap length (e ∙ ap (λ (j : JournalView). j.entries) l) in
     omega (arith, length-take {A = Entry}, length-drop {A = Entry})
@@ -30,11 +30,10 @@ entries-more old new first last before entries f b l e few =
 marks-more : (stood : ℕ) (marks : List Mark) → length marks ≤ stood + 1 → length (take (length marks - stood) (drop stood marks)) ≤ 1
 marks-more stood marks le = omega (arith, length-take {A = Mark}, length-drop {A = Mark})
 
--- one line more at most
-grown : {X : Type 0} (line : X → Line) (lines new : List Line × ℕ) (items : List X) → new ≡ (lines.0 ++ map line items, lines.1) → length items ≤ 1 → (length new.0 ≤ length lines.0 + 1) × (new.1 ≡ lines.1)
-grown line lines new items e le =
-    let l : length new.0 ≡ length lines.0 + length items = ap (λ (r : List Line × ℕ). length r.0) e ∙ length-append lines.0 (map line items) ∙ ap (λ n. length lines.0 + n) (length-map items line) in
-    (omega arith, ap (λ (r : List Line × ℕ). r.1) e)
+-- as many lines more
+grown : {X : Type 0} (line : X → Line) (lines new : List Line × ℕ) (items : List X) → new ≡ (lines.0 ++ map line items, lines.1) → (length new.0 ≡ length lines.0 + length items) × (new.1 ≡ lines.1)
+grown line lines new items e =
+    (ap (λ (r : List Line × ℕ). length r.0) e ∙ length-append lines.0 (map line items) ∙ ap (λ n. length lines.0 + n) (length-map items line), ap (λ (r : List Line × ℕ). r.1) e)
 
 pub offset_bounds-marks-stood : goal.offset_bounds-marks-stood
 offset_bounds-marks-stood c =
@@ -62,11 +61,11 @@ returns-clause-fits c =
 
 pub returns-clause-free : goal.returns-clause-free
 returns-clause-free c =
-    still-free _ c.attempt_at.new.cpu c.attempt_at.new.fabric.fabric.words c.args.partition.now c.attempt_at.new.partition c.attempt_at.ensures.done c.args.fabric.now.limits.vps c.requires.free
+    still-free _ c.attempt_at.new.cpu c.attempt_at.new.fabric.fabric.words c.args.partition.now c.attempt_at.new.partition c.attempt_at.ensures.done c.args.fabric.now.limits c.requires.free
 
 pub returns-clause-spends : goal.returns-clause-spends
 returns-clause-spends c =
-    entries-paid _ c.attempt_at.new.cpu c.attempt_at.new.fabric.fabric.words c.args.partition.now c.attempt_at.new.partition c.attempt_at.ensures.done (standing c.args.cpu.now) (made_steps-pays c.args.program.now c.args.cpu.now c.args.partition.now.state c.args.fabric.now.fabric.words)
+    entries-paid _ c.attempt_at.new.cpu c.attempt_at.new.fabric.fabric.words c.args.partition.now c.attempt_at.new.partition c.attempt_at.ensures.done (length c.args.partition.now.state.vps + 11) (standing c.args.cpu.now) (made_steps-pays c.args.program.now c.args.cpu.now c.args.partition.now.state c.args.fabric.now.fabric.words) c.attempt_at.ensures.few
 
 pub returns-clause-marks : goal.returns-clause-marks
 returns-clause-marks c =
@@ -76,33 +75,44 @@ returns-clause-marks c =
 pub add_entries-requires : goal.add_entries-requires
 add_entries-requires c =
     let did = c.attempt_at.ensures.done in
-    let few_entries = entries-few _ c.attempt_at.new.cpu c.attempt_at.new.fabric.fabric.words c.args.partition.now c.attempt_at.new.partition did (standing c.args.cpu.now) (made_steps-pays c.args.program.now c.args.cpu.now c.args.partition.now.state c.args.fabric.now.fabric.words) in
-    let one = entries-more c.args.partition.now c.attempt_at.new.partition c.journal.result.now c.journal-2.result.now c.entries-before.result.now c.entries.result.now c.journal.ensures c.entries-before.ensures c.journal-2.ensures c.entries.ensures few_entries in
+    let vps = length c.args.partition.now.state.vps in
+    let pays = made_steps-pays c.args.program.now c.args.cpu.now c.args.partition.now.state c.args.fabric.now.fabric.words in
+    let few_entries = entries-few _ c.attempt_at.new.cpu c.attempt_at.new.fabric.fabric.words c.args.partition.now c.attempt_at.new.partition did (vps + 11) (standing c.args.cpu.now) pays c.attempt_at.ensures.few in
+    let later = entries-later _ c.attempt_at.new.cpu c.attempt_at.new.fabric.fabric.words c.args.partition.now c.attempt_at.new.partition did in
+    let some = entries-more c.args.partition.now c.attempt_at.new.partition c.journal.result.now c.journal-2.result.now c.entries-before.result.now c.entries.result.now c.journal.ensures c.entries-before.ensures c.journal-2.ensures c.entries.ensures later in
+    let room = c.requires.room in
     omega arith
 
 pub add_marks-requires : goal.add_marks-requires
 add_marks-requires c =
     let did = c.attempt_at.ensures.done in
-    let few_entries = entries-few _ c.attempt_at.new.cpu c.attempt_at.new.fabric.fabric.words c.args.partition.now c.attempt_at.new.partition did (standing c.args.cpu.now) (made_steps-pays c.args.program.now c.args.cpu.now c.args.partition.now.state c.args.fabric.now.fabric.words) in
-    let one = entries-more c.args.partition.now c.attempt_at.new.partition c.journal.result.now c.journal-2.result.now c.entries-before.result.now c.entries.result.now c.journal.ensures c.entries-before.ensures c.journal-2.ensures c.entries.ensures few_entries in
-    let more = grown entry_line c.args.lines.now c.add_entries.new.lines _ c.add_entries.ensures one in
+    let vps = length c.args.partition.now.state.vps in
+    let pays = made_steps-pays c.args.program.now c.args.cpu.now c.args.partition.now.state c.args.fabric.now.fabric.words in
+    let few_entries = entries-few _ c.attempt_at.new.cpu c.attempt_at.new.fabric.fabric.words c.args.partition.now c.attempt_at.new.partition did (vps + 11) (standing c.args.cpu.now) pays c.attempt_at.ensures.few in
+    let later = entries-later _ c.attempt_at.new.cpu c.attempt_at.new.fabric.fabric.words c.args.partition.now c.attempt_at.new.partition did in
+    let some = entries-more c.args.partition.now c.attempt_at.new.partition c.journal.result.now c.journal-2.result.now c.entries-before.result.now c.entries.result.now c.journal.ensures c.entries-before.ensures c.journal-2.ensures c.entries.ensures later in
+    let more = grown entry_line c.args.lines.now c.add_entries.new.lines _ c.add_entries.ensures in
     let lines = more.0 in
-    let room = more.1 in
+    let same = more.1 in
     let h = few _ _ _ _ _ _ did.vp c.marks.ensures in
     let low = h.few in
     let marks = marks-more c.standing-stood.result c.marks.result.now (omega arith) in
+    let room = c.requires.room in
     omega arith
 
 pub returns-clause-grows : goal.returns-clause-grows
 returns-clause-grows c =
     let did = c.attempt_at.ensures.done in
-    let few_entries = entries-few _ c.attempt_at.new.cpu c.attempt_at.new.fabric.fabric.words c.args.partition.now c.attempt_at.new.partition did (standing c.args.cpu.now) (made_steps-pays c.args.program.now c.args.cpu.now c.args.partition.now.state c.args.fabric.now.fabric.words) in
-    let one = entries-more c.args.partition.now c.attempt_at.new.partition c.journal.result.now c.journal-2.result.now c.entries-before.result.now c.entries.result.now c.journal.ensures c.entries-before.ensures c.journal-2.ensures c.entries.ensures few_entries in
-    let more = grown entry_line c.args.lines.now c.add_entries.new.lines _ c.add_entries.ensures one in
+    let vps = length c.args.partition.now.state.vps in
+    let pays = made_steps-pays c.args.program.now c.args.cpu.now c.args.partition.now.state c.args.fabric.now.fabric.words in
+    let few_entries = entries-few _ c.attempt_at.new.cpu c.attempt_at.new.fabric.fabric.words c.args.partition.now c.attempt_at.new.partition did (vps + 11) (standing c.args.cpu.now) pays c.attempt_at.ensures.few in
+    let later = entries-later _ c.attempt_at.new.cpu c.attempt_at.new.fabric.fabric.words c.args.partition.now c.attempt_at.new.partition did in
+    let some = entries-more c.args.partition.now c.attempt_at.new.partition c.journal.result.now c.journal-2.result.now c.entries-before.result.now c.entries.result.now c.journal.ensures c.entries-before.ensures c.journal-2.ensures c.entries.ensures later in
+    let more = grown entry_line c.args.lines.now c.add_entries.new.lines _ c.add_entries.ensures in
     let lines = more.0 in
     let h = few _ _ _ _ _ _ did.vp c.marks.ensures in
     let low = h.few in
     let marks = marks-more c.standing-stood.result c.marks.result.now (omega arith) in
-    let last = grown (mark_line c.vp-vp.result.0) c.add_entries.new.lines c.add_marks.new.lines _ c.add_marks.ensures marks in
+    let last = grown (mark_line c.vp-vp.result.0) c.add_entries.new.lines c.add_marks.new.lines _ c.add_marks.ensures in
     let grown_lines = last.0 in
     omega arith

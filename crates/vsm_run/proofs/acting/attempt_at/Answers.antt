@@ -1,16 +1,19 @@
-use Rattle.std.proofs.Common.{◌≡◌, ℕ, List, refl, sym, ap, subst, ◌∙◌}
-use Rattle.fabric.specs.Plain.{Plain}
+use Rattle.std.proofs.Common.{◌≡◌, ◌+◌, ℕ, List, length, refl, sym, ap, subst, ◌∙◌}
+use Rattle.vsm_core.specs.Entries.{words_by_entries}
 use Rattle.vsm_core.specs.Processor.{Did, operation_at}
-use Rattle.vsm_core.specs.Seat.{Fabric}
+use Rattle.vsm_core.specs.Protection.{IsSlice}
+use Rattle.vsm_core.specs.Served.{block}
 use Rattle.vsm_core.specs.State.{State}
-use Rattle.vsm_run.specs.Serving.{IsDone}
+use Rattle.cpu.specs.Turns.{HandsSlice}
+use Rattle.vsm_run.specs.Serving.{AddsFew, Agrees, IsDone, IsFree, IsPacedBy, NoneBusy}
 use Rattle.vsm_run.specs.Wholes.{Hands, Moves, Leads, does_rest}
-use Rattle.vsm_run.proofs.Finishes.{IsFinished, Phases, on-at-first, made-rest, led, still-on, ends-turn, stops-finished, asks-by, heard-on, heard-finished}
+use Rattle.vsm_run.proofs.Finishes.{IsFinished, Phases, on-at-first, made-rest, led, still-on, still-paced, ends-turn, stops-finished, now-free, none-busy, asks-by, asks-room, heard-on, heard-finished}
+use Rattle.vsm_run.proofs.Wholes.{SameParts}
 use Rattle.vsm_run.proofs.acting.attempt_at.Goals as goal
 
 pub turns-init : goal.turns-init
 turns-init c = record {
-  on = on-at-first c.args.program.now c.args.fabric.now.limits c.args.cpu.now c.args.fabric.now.fabric c.args.partition.now c.requires.fits c.requires.place c.requires.going c.requires.idle c.requires.room;
+  on = on-at-first c.args.program.now c.args.fabric.now.limits c.args.cpu.now c.args.fabric.now.fabric c.args.partition.now c.requires.fits c.requires.place c.requires.going c.requires.idle c.requires.room c.requires.agrees c.requires.paced;
   limits = refl;
 }
 
@@ -21,18 +24,66 @@ turns-preserved-in-Moved c =
     let limits = c.args.fabric.now.limits in
     let op = operation_at program start.state in
     let words = c.args.fabric.now.fabric.words in
+    let before = c.args.partition.now in
+    let now = c.turns.partition in
     let v = c.turns.cpu in
     let n = c.turn_at.new.cpu in
     let fabric = c.turns.fabric.fabric in
     let turned = c.turn_at.new.fabric.fabric in
     let on = c.turns.invariant.on in
     let same = ap (λ (s : State). operation_at program s) on.state in
-    let leads = led op start words c.args.partition.now limits v fabric c.turns.partition on (operation_at program v.state) c.turns.fabric.limits n turned.words c.turn_at.result c.turns.invariant.limits same c.turn_at.ensures.leads in
+    let agrees : Agrees limits turned = subst (λ l. Agrees l fabric → Agrees l turned) c.turns.invariant.limits c.turn_at.ensures.agrees on.agrees in
+    let parts : SameParts fabric turned = record { turns = c.turn_at.ensures.turns; cleared = c.turn_at.ensures.cleared } in
+    let leads = led op start words before limits v fabric now on (operation_at program v.state) c.turns.fabric.limits n turned.words c.turn_at.result c.turns.invariant.limits same c.turn_at.ensures.leads in
     let moves : Moves limits start.number op v n fabric.words turned.words = subst (λ turn. Leads turn limits start.number op v n fabric.words turned.words) c.in-Moved.is leads in
     record {
-      on = still-on op start words c.args.partition.now limits v fabric c.turns.partition on n turned moves c.in-Moved.ensures.owes (record { own = c.turn_at.ensures.phase; others = c.turn_at.ensures.others });
+      on = still-on op start words before limits v fabric now on n turned moves c.in-Moved.ensures.owes (record { own = c.turn_at.ensures.phase; others = c.turn_at.ensures.others }) agrees parts;
       limits = c.turn_at.ensures.limits ∙ c.turns.invariant.limits;
     }
+
+pub serve-reply-requires-clause-free : goal.serve-reply-requires-clause-free
+serve-reply-requires-clause-free c =
+    let program = c.args.program.now in
+    let start = c.args.cpu.now in
+    let limits = c.args.fabric.now.limits in
+    let op = operation_at program start.state in
+    let words = c.args.fabric.now.fabric.words in
+    let before = c.args.partition.now in
+    let now = c.turns.partition in
+    let v = c.turns.cpu in
+    let n = c.turn_at.new.cpu in
+    let fabric = c.turns.fabric.fabric in
+    let turned = c.turn_at.new.fabric.fabric in
+    let on = c.turns.invariant.on in
+    let same = ap (λ (s : State). operation_at program s) on.state in
+    let agrees : Agrees limits turned = subst (λ l. Agrees l fabric → Agrees l turned) c.turns.invariant.limits c.turn_at.ensures.agrees on.agrees in
+    let parts : SameParts fabric turned = record { turns = c.turn_at.ensures.turns; cleared = c.turn_at.ensures.cleared } in
+    let leads = led op start words before limits v fabric now on (operation_at program v.state) c.turns.fabric.limits n turned.words c.turn_at.result c.turns.invariant.limits same c.turn_at.ensures.leads in
+    let lims : c.turn_at.new.fabric.limits ≡ limits = c.turn_at.ensures.limits ∙ c.turns.invariant.limits in
+    let q = c.in-Wants.request in
+    let hands : Hands q op v n fabric.words turned.words = subst (λ turn. Leads turn limits start.number op v n fabric.words turned.words) c.in-Wants.is leads in
+    subst (λ l. IsFree l now) (sym lims) (now-free op start words before limits v fabric now on q n turned.words hands c.requires.free)
+
+pub serve-reply-requires-clause-paced : goal.serve-reply-requires-clause-paced
+serve-reply-requires-clause-paced c =
+    let program = c.args.program.now in
+    let start = c.args.cpu.now in
+    let limits = c.args.fabric.now.limits in
+    let op = operation_at program start.state in
+    let words = c.args.fabric.now.fabric.words in
+    let before = c.args.partition.now in
+    let now = c.turns.partition in
+    let v = c.turns.cpu in
+    let n = c.turn_at.new.cpu in
+    let fabric = c.turns.fabric.fabric in
+    let turned = c.turn_at.new.fabric.fabric in
+    let on = c.turns.invariant.on in
+    let same = ap (λ (s : State). operation_at program s) on.state in
+    let agrees : Agrees limits turned = subst (λ l. Agrees l fabric → Agrees l turned) c.turns.invariant.limits c.turn_at.ensures.agrees on.agrees in
+    let parts : SameParts fabric turned = record { turns = c.turn_at.ensures.turns; cleared = c.turn_at.ensures.cleared } in
+    let leads = led op start words before limits v fabric now on (operation_at program v.state) c.turns.fabric.limits n turned.words c.turn_at.result c.turns.invariant.limits same c.turn_at.ensures.leads in
+    let lims : c.turn_at.new.fabric.limits ≡ limits = c.turn_at.ensures.limits ∙ c.turns.invariant.limits in
+    subst (λ l. IsPacedBy now (record { limits = l; fabric = turned })) (sym lims) (still-paced limits now fabric turned parts on.paced)
 
 pub serve-reply-requires-clause-by : goal.serve-reply-requires-clause-by
 serve-reply-requires-clause-by c =
@@ -41,16 +92,69 @@ serve-reply-requires-clause-by c =
     let limits = c.args.fabric.now.limits in
     let op = operation_at program start.state in
     let words = c.args.fabric.now.fabric.words in
+    let before = c.args.partition.now in
+    let now = c.turns.partition in
     let v = c.turns.cpu in
     let n = c.turn_at.new.cpu in
     let fabric = c.turns.fabric.fabric in
     let turned = c.turn_at.new.fabric.fabric in
     let on = c.turns.invariant.on in
-    let q = c.in-Wants.request in
     let same = ap (λ (s : State). operation_at program s) on.state in
-    let leads = led op start words c.args.partition.now limits v fabric c.turns.partition on (operation_at program v.state) c.turns.fabric.limits n turned.words c.turn_at.result c.turns.invariant.limits same c.turn_at.ensures.leads in
+    let agrees : Agrees limits turned = subst (λ l. Agrees l fabric → Agrees l turned) c.turns.invariant.limits c.turn_at.ensures.agrees on.agrees in
+    let parts : SameParts fabric turned = record { turns = c.turn_at.ensures.turns; cleared = c.turn_at.ensures.cleared } in
+    let leads = led op start words before limits v fabric now on (operation_at program v.state) c.turns.fabric.limits n turned.words c.turn_at.result c.turns.invariant.limits same c.turn_at.ensures.leads in
+    let q = c.in-Wants.request in
     let hands : Hands q op v n fabric.words turned.words = subst (λ turn. Leads turn limits start.number op v n fabric.words turned.words) c.in-Wants.is leads in
-    asks-by op start words c.args.partition.now limits v fabric c.turns.partition on q n turned.words hands c.requires.place.low c.requires.free
+    asks-by op start words before limits v fabric now on q n turned.words hands c.requires.place.low c.requires.free
+
+pub serve-reply-requires-clause-slice : goal.serve-reply-requires-clause-slice
+serve-reply-requires-clause-slice c = subst HandsSlice c.in-Wants.is c.turn_at.ensures.slices
+
+pub serve-reply-requires-clause-room : goal.serve-reply-requires-clause-room
+serve-reply-requires-clause-room c =
+    let program = c.args.program.now in
+    let start = c.args.cpu.now in
+    let limits = c.args.fabric.now.limits in
+    let op = operation_at program start.state in
+    let words = c.args.fabric.now.fabric.words in
+    let before = c.args.partition.now in
+    let now = c.turns.partition in
+    let v = c.turns.cpu in
+    let n = c.turn_at.new.cpu in
+    let fabric = c.turns.fabric.fabric in
+    let turned = c.turn_at.new.fabric.fabric in
+    let on = c.turns.invariant.on in
+    let same = ap (λ (s : State). operation_at program s) on.state in
+    let agrees : Agrees limits turned = subst (λ l. Agrees l fabric → Agrees l turned) c.turns.invariant.limits c.turn_at.ensures.agrees on.agrees in
+    let parts : SameParts fabric turned = record { turns = c.turn_at.ensures.turns; cleared = c.turn_at.ensures.cleared } in
+    let leads = led op start words before limits v fabric now on (operation_at program v.state) c.turns.fabric.limits n turned.words c.turn_at.result c.turns.invariant.limits same c.turn_at.ensures.leads in
+    let q = c.in-Wants.request in
+    let hands : Hands q op v n fabric.words turned.words = subst (λ turn. Leads turn limits start.number op v n fabric.words turned.words) c.in-Wants.is leads in
+    let slice : IsSlice q.call = subst HandsSlice c.in-Wants.is c.turn_at.ensures.slices in
+    asks-room op start words before limits v fabric now on q n turned.words hands slice
+
+pub serve-reply-requires-clause-idle : goal.serve-reply-requires-clause-idle
+serve-reply-requires-clause-idle c =
+    let program = c.args.program.now in
+    let start = c.args.cpu.now in
+    let limits = c.args.fabric.now.limits in
+    let op = operation_at program start.state in
+    let words = c.args.fabric.now.fabric.words in
+    let before = c.args.partition.now in
+    let now = c.turns.partition in
+    let v = c.turns.cpu in
+    let n = c.turn_at.new.cpu in
+    let fabric = c.turns.fabric.fabric in
+    let turned = c.turn_at.new.fabric.fabric in
+    let on = c.turns.invariant.on in
+    let same = ap (λ (s : State). operation_at program s) on.state in
+    let agrees : Agrees limits turned = subst (λ l. Agrees l fabric → Agrees l turned) c.turns.invariant.limits c.turn_at.ensures.agrees on.agrees in
+    let parts : SameParts fabric turned = record { turns = c.turn_at.ensures.turns; cleared = c.turn_at.ensures.cleared } in
+    let leads = led op start words before limits v fabric now on (operation_at program v.state) c.turns.fabric.limits n turned.words c.turn_at.result c.turns.invariant.limits same c.turn_at.ensures.leads in
+    let lims : c.turn_at.new.fabric.limits ≡ limits = c.turn_at.ensures.limits ∙ c.turns.invariant.limits in
+    let q = c.in-Wants.request in
+    let hands : Hands q op v n fabric.words turned.words = subst (λ turn. Leads turn limits start.number op v n fabric.words turned.words) c.in-Wants.is leads in
+    none-busy op start words before limits v fabric now on q n turned.words hands c.turn_at.new.fabric.limits turned lims agrees (record { own = c.turn_at.ensures.phase; others = c.turn_at.ensures.others })
 
 pub turns-preserved : goal.turns-preserved
 turns-preserved c =
@@ -59,22 +163,34 @@ turns-preserved c =
     let limits = c.args.fabric.now.limits in
     let op = operation_at program start.state in
     let words = c.args.fabric.now.fabric.words in
+    let before = c.args.partition.now in
+    let now = c.turns.partition in
     let v = c.turns.cpu in
     let n = c.turn_at.new.cpu in
-    let m = c.accept.new.self in
     let fabric = c.turns.fabric.fabric in
     let turned = c.turn_at.new.fabric.fabric in
-    let next = c.serve-reply.new.fabric.fabric in
     let on = c.turns.invariant.on in
-    let q = c.in-Wants.request in
     let same = ap (λ (s : State). operation_at program s) on.state in
-    let leads = led op start words c.args.partition.now limits v fabric c.turns.partition on (operation_at program v.state) c.turns.fabric.limits n turned.words c.turn_at.result c.turns.invariant.limits same c.turn_at.ensures.leads in
+    let agrees : Agrees limits turned = subst (λ l. Agrees l fabric → Agrees l turned) c.turns.invariant.limits c.turn_at.ensures.agrees on.agrees in
+    let parts : SameParts fabric turned = record { turns = c.turn_at.ensures.turns; cleared = c.turn_at.ensures.cleared } in
+    let leads = led op start words before limits v fabric now on (operation_at program v.state) c.turns.fabric.limits n turned.words c.turn_at.result c.turns.invariant.limits same c.turn_at.ensures.leads in
+    let lims : c.turn_at.new.fabric.limits ≡ limits = c.turn_at.ensures.limits ∙ c.turns.invariant.limits in
+    let q = c.in-Wants.request in
     let hands : Hands q op v n fabric.words turned.words = subst (λ turn. Leads turn limits start.number op v n fabric.words turned.words) c.in-Wants.is leads in
-    let stays : next ≡ turned = ap (λ (f : Plain). f.fabric) c.serve-reply.ensures.fabric in
+    let slice : IsSlice q.call = subst HandsSlice c.in-Wants.is c.turn_at.ensures.slices in
+    let m = c.accept.new.self in
+    let part = c.serve-reply.new.partition in
+    let next = c.serve-reply.new.fabric.fabric in
+    let lims_next : c.serve-reply.new.fabric.limits ≡ limits = c.serve-reply.ensures.limits ∙ lims in
+    let words_next = c.serve-reply.ensures.words ∙ ap (λ l. words_by_entries l turned.words (block now.state q)) lims in
+    let idle_next : NoneBusy limits next.words = subst (λ l. NoneBusy l next.words) lims c.serve-reply.ensures.idle in
+    let agrees_next : Agrees limits next = λ p low idle. idle_next p low in
+    let paced_next : IsPacedBy part (record { limits = limits; fabric = next }) = subst (λ l. IsPacedBy part (record { limits = l; fabric = next })) lims_next c.serve-reply.ensures.paced in
+    let stays : next.phases ≡ turned.phases = c.serve-reply.ensures.phases in
     let phases : Phases v.number m fabric.phases next.phases = rw stays (record { own = c.turn_at.ensures.phase ∙ sym c.accept.ensures.phase; others = c.turn_at.ensures.others }) in
     record {
-      on = heard-on op start words c.args.partition.now limits v fabric c.turns.partition on q n turned.words hands c.serve-reply.result m c.accept.result c.serve-reply.new.partition c.serve-reply.ensures.reply c.serve-reply.ensures.served c.accept.ensures.accepted next c.in-Moved-accept.is c.accept.ensures.left c.turn_at.ensures.first (ap (λ (f : Fabric). f.words) stays) phases;
-      limits = ap (λ (f : Plain). f.limits) c.serve-reply.ensures.fabric ∙ c.turn_at.ensures.limits ∙ c.turns.invariant.limits;
+      on = heard-on op start words before limits v fabric now on q n turned.words hands c.serve-reply.result m c.accept.result part c.serve-reply.ensures.reply slice c.serve-reply.ensures.served c.accept.ensures.accepted next c.in-Moved-accept.is c.accept.ensures.left c.turn_at.ensures.first words_next phases agrees_next paced_next;
+      limits = lims_next;
     }
 
 pub returns-in_default-accept : goal.returns-in_default-accept
@@ -85,30 +201,43 @@ returns-in_default-accept c =
     let op = operation_at program start.state in
     let words = c.args.fabric.now.fabric.words in
     let before = c.args.partition.now in
-    let part = c.serve-reply.new.partition in
+    let now = c.turns.partition in
     let v = c.turns.cpu in
     let n = c.turn_at.new.cpu in
-    let m = c.accept.new.self in
     let fabric = c.turns.fabric.fabric in
     let turned = c.turn_at.new.fabric.fabric in
-    let last = c.serve-reply.new.fabric.fabric in
     let on = c.turns.invariant.on in
-    let q = c.in-Wants.request in
-    let place = c.requires.place in
     let same = ap (λ (s : State). operation_at program s) on.state in
-    let leads = led op start words before limits v fabric c.turns.partition on (operation_at program v.state) c.turns.fabric.limits n turned.words c.turn_at.result c.turns.invariant.limits same c.turn_at.ensures.leads in
+    let agrees : Agrees limits turned = subst (λ l. Agrees l fabric → Agrees l turned) c.turns.invariant.limits c.turn_at.ensures.agrees on.agrees in
+    let parts : SameParts fabric turned = record { turns = c.turn_at.ensures.turns; cleared = c.turn_at.ensures.cleared } in
+    let leads = led op start words before limits v fabric now on (operation_at program v.state) c.turns.fabric.limits n turned.words c.turn_at.result c.turns.invariant.limits same c.turn_at.ensures.leads in
+    let lims : c.turn_at.new.fabric.limits ≡ limits = c.turn_at.ensures.limits ∙ c.turns.invariant.limits in
+    let q = c.in-Wants.request in
     let hands : Hands q op v n fabric.words turned.words = subst (λ turn. Leads turn limits start.number op v n fabric.words turned.words) c.in-Wants.is leads in
-    let stays : last ≡ turned = ap (λ (f : Plain). f.fabric) c.serve-reply.ensures.fabric in
-    let phases : Phases v.number m fabric.phases last.phases = rw stays (record { own = c.turn_at.ensures.phase ∙ sym c.accept.ensures.phase; others = c.turn_at.ensures.others }) in
-    let finished : IsFinished (does_rest limits start.number op before.state start words) m last before part =
-    heard-finished op start words before limits v fabric c.turns.partition on q n turned.words hands c.serve-reply.result m c.accept.result part c.serve-reply.ensures.reply c.serve-reply.ensures.served c.accept.ensures.accepted last c.in_default-accept.not-Moved (ap (λ (f : Fabric). f.words) stays) phases in
+    let slice : IsSlice q.call = subst HandsSlice c.in-Wants.is c.turn_at.ensures.slices in
+    let m = c.accept.new.self in
+    let part = c.serve-reply.new.partition in
+    let next = c.serve-reply.new.fabric.fabric in
+    let lims_next : c.serve-reply.new.fabric.limits ≡ limits = c.serve-reply.ensures.limits ∙ lims in
+    let words_next = c.serve-reply.ensures.words ∙ ap (λ l. words_by_entries l turned.words (block now.state q)) lims in
+    let idle_next : NoneBusy limits next.words = subst (λ l. NoneBusy l next.words) lims c.serve-reply.ensures.idle in
+    let agrees_next : Agrees limits next = λ p low idle. idle_next p low in
+    let paced_next : IsPacedBy part (record { limits = limits; fabric = next }) = subst (λ l. IsPacedBy part (record { limits = l; fabric = next })) lims_next c.serve-reply.ensures.paced in
+    let stays : next.phases ≡ turned.phases = c.serve-reply.ensures.phases in
+    let phases : Phases v.number m fabric.phases next.phases = rw stays (record { own = c.turn_at.ensures.phase ∙ sym c.accept.ensures.phase; others = c.turn_at.ensures.others }) in
+    let place = c.requires.place in
+    let finished : IsFinished limits (does_rest limits start.number op before.state start words) m next before part =
+    heard-finished op start words before limits v fabric now on q n turned.words hands c.serve-reply.result m c.accept.result part c.serve-reply.ensures.reply slice c.serve-reply.ensures.served c.accept.ensures.accepted next c.in_default-accept.not-Moved words_next phases agrees_next paced_next in
     let made = made-rest program limits start before.state words place.rests place.unheard place.limits_same in
     record {
-      done = subst (λ (d : Did (List ℕ)). IsDone d m last.words before part) (sym made) finished.done;
-      limits = ap (λ (f : Plain). f.limits) c.serve-reply.ensures.fabric ∙ c.turn_at.ensures.limits ∙ c.turns.invariant.limits;
+      done = subst (λ (d : Did (List ℕ)). IsDone d m next.words before part) (sym made) finished.done;
+      few = subst (λ (d : Did (List ℕ)). AddsFew (length before.state.vps + 11) d before part) (sym made) finished.few;
+      limits = lims_next;
       rests = finished.rests;
       unheard = finished.unheard;
       idle = finished.idle;
+      agrees = finished.agrees;
+      paced = c.serve-reply.ensures.paced;
     }
 
 pub returns-in_default : goal.returns-in_default
@@ -119,23 +248,29 @@ returns-in_default c =
     let op = operation_at program start.state in
     let words = c.args.fabric.now.fabric.words in
     let before = c.args.partition.now in
-    let part = c.turns.partition in
+    let now = c.turns.partition in
     let v = c.turns.cpu in
     let n = c.turn_at.new.cpu in
     let fabric = c.turns.fabric.fabric in
-    let last = c.turn_at.new.fabric.fabric in
+    let turned = c.turn_at.new.fabric.fabric in
     let on = c.turns.invariant.on in
-    let place = c.requires.place in
     let same = ap (λ (s : State). operation_at program s) on.state in
-    let leads = led op start words before limits v fabric part on (operation_at program v.state) c.turns.fabric.limits n last.words c.turn_at.result c.turns.invariant.limits same c.turn_at.ensures.leads in
-    let stops = ends-turn c.turn_at.result limits start.number op v n fabric.words last.words c.in_default.not-Moved c.in_default.not-Wants leads in
-    let finished : IsFinished (does_rest limits start.number op before.state start words) n last before part =
-    stops-finished op start words before limits v fabric part on n last stops (record { own = c.turn_at.ensures.phase; others = c.turn_at.ensures.others }) in
+    let agrees : Agrees limits turned = subst (λ l. Agrees l fabric → Agrees l turned) c.turns.invariant.limits c.turn_at.ensures.agrees on.agrees in
+    let parts : SameParts fabric turned = record { turns = c.turn_at.ensures.turns; cleared = c.turn_at.ensures.cleared } in
+    let leads = led op start words before limits v fabric now on (operation_at program v.state) c.turns.fabric.limits n turned.words c.turn_at.result c.turns.invariant.limits same c.turn_at.ensures.leads in
+    let lims : c.turn_at.new.fabric.limits ≡ limits = c.turn_at.ensures.limits ∙ c.turns.invariant.limits in
+    let place = c.requires.place in
+    let stops = ends-turn c.turn_at.result limits start.number op v n fabric.words turned.words c.in_default.not-Moved c.in_default.not-Wants leads in
+    let finished : IsFinished limits (does_rest limits start.number op before.state start words) n turned before now =
+    stops-finished op start words before limits v fabric now on n turned stops (record { own = c.turn_at.ensures.phase; others = c.turn_at.ensures.others }) agrees parts in
     let made = made-rest program limits start before.state words place.rests place.unheard place.limits_same in
     record {
-      done = subst (λ (d : Did (List ℕ)). IsDone d n last.words before part) (sym made) finished.done;
-      limits = c.turn_at.ensures.limits ∙ c.turns.invariant.limits;
+      done = subst (λ (d : Did (List ℕ)). IsDone d n turned.words before now) (sym made) finished.done;
+      few = subst (λ (d : Did (List ℕ)). AddsFew (length before.state.vps + 11) d before now) (sym made) finished.few;
+      limits = lims;
       rests = finished.rests;
       unheard = finished.unheard;
       idle = finished.idle;
+      agrees = finished.agrees;
+      paced = subst (λ l. IsPacedBy now (record { limits = l; fabric = turned })) (sym lims) finished.paced;
     }

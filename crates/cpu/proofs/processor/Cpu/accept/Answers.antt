@@ -1,4 +1,4 @@
-use Rattle.std.proofs.Common.{◌≡◌, ◌∙◌, ◌-◌, Some, None, true, false, length, refl, sym, ap}
+use Rattle.std.proofs.Common.{◌≡◌, ◌-◌, Some, None, true, false, length, refl}
 use Rattle.vsm_core.specs.Outcomes.{Origin}
 use Rattle.vsm_core.specs.Processor.{Vp}
 use Rattle.cpu.specs.declared.stage.Under.{Under}

@@ -2,10 +2,11 @@ use Rattle.std.proofs.Common.{arith, ◌≡◌, Some, None, true, false, refl, s
 use Rattle.vsm_core.specs.Outcomes.{Origin}
 use Rattle.vsm_core.specs.Processor.{Vp, operation_at}
 use Rattle.vsm_core.specs.Seat.{Seat}
-use Rattle.vtl_state.specs.States.{state_of}
 use Rattle.cpu.specs.Sound.{view_of}
 use Rattle.cpu.specs.Stages.{StageSteps}
 use Rattle.cpu.specs.Turns.{phase_at}
+use Rattle.cpu.specs.Inputs.{AskedIs}
+use Rattle.cpu.proofs.PageSlices.{asked-slice}
 use Rattle.cpu.proofs.Rests.{going-ends}
 use Rattle.cpu.proofs.Seen.{first-by-le, first-by-few, part-by-le}
 use Rattle.cpu.specs.Held.{origin_at}
@@ -115,3 +116,12 @@ returns-in-Want-clause-turned g c =
     let rest = rw c.in-Want.is at means.rest in
     let own : operation_at c.args.program.now v.state ≡ Some u.op = rw (← c.operations-ops.ensures) c.begun-under.ensures.op in
     rw (← c.self.view_is, own) (wanted-by v _ u.op from c.in-Want.asked (g.P.Port.seat c.args.port.now) c.request.result rest (rw c.stand.ensures refl) (c.request.ensures from refl refl))
+
+pub returns-in-Want-clause-slices : goal.returns-in-Want-clause-slices
+returns-in-Want-clause-slices g c =
+    let i = c.self.inside in
+    let u = c.begun-under.result in
+    let from : Origin = origin_at i.limits i.vp.0 i.bank i.levels i.controllers in
+    let means = c.begun-under.ensures.means i.heard i.log.seen.0 i.log.part i.log.first c.self.invariant.means in
+    let is : AskedIs from.pages c.in-Want.asked = rw c.in-Want.is at means.is in
+    rw (c.request.ensures from refl refl) (asked-slice from.pages c.in-Want.asked is)

@@ -1,4 +1,4 @@
-use Rattle.std.proofs.Common.{rules, ◌≡◌, false, refl, ap, sym, ◌∙◌}
+use Rattle.std.proofs.Common.{◌≡◌, false, ap, ◌∙◌}
 use Rattle.vsm_core.specs.Outcomes.{Origin}
 use Rattle.vsm_core.specs.Processor.{IsShort}
 use Rattle.vtl_state.specs.States.{state_of}

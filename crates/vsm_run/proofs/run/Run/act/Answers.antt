@@ -1,9 +1,9 @@
-use Rattle.std.proofs.Common.{◌≡◌, refl, sym, ap, subst, ◌∙◌, true, false, None, is_some}
-use Rattle.vsm_base.specs.declared.places.Limits.{Limits}
+use Rattle.std.proofs.Common.{◌≡◌, ◌≤◌, ◌+◌, length, arith, refl, sym, ap, subst, ◌∙◌, true, false, None, is_some}
+use Rattle.vsm_core.specs.Protection.{owed}
 use Rattle.vsm_report.specs.Trace.{stepped}
 use Rattle.vsm_run.specs.Fits.{Fits}
 use Rattle.vsm_run.specs.Running.{Running}
-use Rattle.vsm_run.specs.Serving.{IsFree, HasRoom, kept_of}
+use Rattle.vsm_run.specs.Serving.{Agrees, IsFree, HasRoom, kept_of}
 use Rattle.vsm_run.proofs.Acts.{found_at, set_back, fits_here, still_fit, still_in_place, own_place, program_of, runs_on, stepped-ended, stepped-running, world_of}
 use Rattle.vsm_run.proofs.Budgets.{room-for-one, room-still}
 use Rattle.vsm_run.proofs.run.Run.act.Goals as goal
@@ -15,7 +15,9 @@ invariant_of-self-then-is_some c =
     record {
       idle = c.self.invariant.idle;
       each = still_in_place limits vps c.args.vp.0 v low is all limits v refl (own_place limits vps c.args.vp.0 v low is all);
+      agrees = c.self.invariant.agrees;
       free = c.self.invariant.free;
+      paced = c.self.invariant.paced;
       room = subst (HasRoom c.self.inside.partition) (sym (set_back vps c.args.vp.0 v is)) c.self.invariant.room;
     }
 
@@ -44,6 +46,19 @@ act_at-requires-clause-entries c =
     let going : v.ended ≡ None = runs_on v (sym (ap is_some c.ended.ensures) ∙ sym c.is_some.ensures ∙ c.if-is_some.false) in
     room-for-one c.self.inside.fabric.limits c.self.inside.cpus.items c.args.vp.0 v c.in-Some.ensures.item.3.0 c.in-Some.ensures.value c.self.invariant.each c.self.inside.partition c.self.invariant.room going
 
+pub act_at-requires-clause-room : goal.act_at-requires-clause-room
+act_at-requires-clause-room c =
+    let room = subst (λ (r : Running). length r.world.lines + owed r.world.partition.state + (r.limits.vps + 12) ≤ r.room) (sym c.self.view_is) c.requires.room in
+    let many = c.self.invariant.free.vps_all in
+    omega arith
+
+pub returns-clause-grows : goal.returns-clause-grows
+returns-clause-grows c =
+    let was = ap (λ (r : Running). length r.world.lines + owed r.world.partition.state + (r.limits.vps + 12)) c.self.view_is in
+    let many = c.self.invariant.free.vps_all in
+    let grows = c.act_at.ensures.grows in
+    omega arith
+
 pub invariant_of-self-2 : goal.invariant_of-self-2
 invariant_of-self-2 c =
     let limits = c.self.inside.fabric.limits in
@@ -58,8 +73,10 @@ invariant_of-self-2 c =
     record {
       idle = did.idle;
       each = still_in_place limits vps c.args.vp.0 v low is all c.act_at.new.fabric.limits n did.limits did.place;
-      free = subst (λ (l : Limits). IsFree l.vps c.act_at.new.partition) (sym did.limits) did.free;
-      room = room-still limits vps c.args.vp.0 v low is all c.self.inside.partition c.act_at.new.partition n c.self.invariant.room going did.place.limits_same (ap (λ p. p.journal.room) did.done.partition) did.spends did.marks;
+      agrees = subst (λ l. Agrees l c.act_at.new.fabric.fabric) (sym did.limits) did.agrees;
+      free = subst (λ l. IsFree l c.act_at.new.partition) (sym did.limits) did.free;
+      paced = did.paced;
+      room = room-still limits vps c.args.vp.0 v low is all c.self.inside.partition c.act_at.new.partition n c.self.invariant.room going did.place.limits_same (ap (λ p. p.journal.room) did.done.partition) (did.free.vps_all ∙ sym c.self.invariant.free.vps_all) did.spends did.marks;
     }
 
 pub returns-clause-acts : goal.returns-clause-acts
