@@ -8,6 +8,7 @@ use Rattle.vsm_base.specs.declared.places.Access.TheVariants.{Read, Write, Execu
 use Rattle.vsm_base.specs.declared.places.Vtl.{Vtl}
 use Rattle.vsm_base.specs.declared.places.Vtl.TheVariants.{Zero, One}
 use Rattle.vsm_base.specs.declared.status.HvStatus.{HvStatus}
+use Rattle.vsm_base.specs.declared.status.TheConstants.HvStatus as statuses
 use Rattle.vsm_core.specs.declared.mark.Grant.{Grant}
 use Rattle.vsm_core.specs.declared.mark.GuestFault.{GuestFault}
 use Rattle.vsm_core.specs.declared.mark.GuestFault.TheVariants.{Undefined}
@@ -22,10 +23,11 @@ use Rattle.vsm_core.specs.declared.operation.Op.TheVariants as ops
 use Rattle.vsm_core.specs.declared.request.PartCall.{PartCall}
 use Rattle.vsm_core.specs.declared.request.Reply.{Reply}
 use Rattle.vsm_core.specs.Access.{Goal, Decision, Grants, Denies, Faults, access, start_fault}
-use Rattle.vsm_core.specs.Calls.{Row, row_of, code_in, is_fast}
+use Rattle.vsm_core.specs.Calls.{Row, row_of, code_in, is_fast, first_failed}
 use Rattle.vsm_core.specs.Controllers.{Controllers, writes, message_page, post_steps, eom_steps, vector_words, with_taken}
 use Rattle.vsm_core.specs.Fills.{Cached}
 use Rattle.vsm_core.specs.Hypercalls.{input_value, input_address, output_address, has_output, fast_words, input_refusal, asked_of, request_of, refused_call, replied, result_outcome}
+use Rattle.vsm_core.specs.Interrupts.{vector_in, processors_in, interrupted_level, interrupt_checks, those_in, interrupt_steps}
 use Rattle.vsm_core.specs.Outcomes.{Origin, Outcome, Refusal, faulted, plain, outcome_at, fills, loaded, passed, spun, set_outcome, get_outcome, jumped, note_of, register_note, held_outcome, denied_outcome, hit_outcome, ack_outcome, eoi_outcome, eom_outcome}
 use Rattle.vsm_core.specs.RegisterCalls.{Setting, settings, count_of, start_of, past_of, header_refusal, value_words, look_in, write_in, set_slice, slice_outcome, slice_numbers, slice_output, got_slice}
 use Rattle.vsm_core.specs.Registers.{is_legal, get as get_in}
@@ -258,11 +260,22 @@ abbrev pub sets_by : Origin → List ℕ → List ℕ → Option HvStatus → Tr
 sets_by from header words None = sets_from from (target_level from.state.active header) (settings words)
 sets_by from header words (Some status) = left_with (result_outcome from from.state status (start_of from))
 
+-- a call that requests an interrupt was judged by the words of its header: where nothing refuses it, the vector is posted to each processor that it names, in the order of their numbers
+abbrev pub interrupts_by : Origin → List ℕ → Option HvStatus → Tree Outcome
+interrupts_by from header None =
+    asks_all (interrupt_steps (interrupted_level from.state.active header) (vector_in header) (those_in (processors_in header) 0 from.vps))
+    (Ends (result_outcome from from.state statuses.SUCCESS 0))
+interrupts_by from header (Some status) = Ends (refused_call from status)
+
+abbrev pub interrupts : Origin → List ℕ → Tree Outcome
+interrupts from header = interrupts_by from header (first_failed (interrupt_checks from.vps from.state.active header))
+
 -- the input of a call was read: the words of its header and those of its slice
 abbrev pub by_input : Origin → ℕ → List ℕ → List ℕ → Tree Outcome
 by_input from code header words =
     if code == 0x0050 then gets_by from header words (header_refusal from header)
-    else (if code == 0x0051 then sets_by from header words (header_refusal from header) else left_for from code header words)
+    else (if code == 0x0051 then sets_by from header words (header_refusal from header)
+    else (if code == 0x000B then Asks Leaving (λ _. interrupts from header) else left_for from code header words))
 
 -- the words of the slice are read
 abbrev pub reads_slice : Origin → Row → ℕ → List ℕ → Tree Outcome
@@ -284,9 +297,13 @@ abbrev pub by_memory : Origin → Row → ℕ → Tree Outcome
 by_memory from row address =
     in_access_from (λ generation. behind_page_mask from.state.active from Read address generation (behind_output from row generation (reads_input from row address)))
 
+-- the input stands in registers
+abbrev pub by_registers : Origin → ℕ → List ℕ → Tree Outcome
+by_registers from code header = if code == 0x000B then interrupts from header else requests from code header []
+
 abbrev pub admitted : Origin → Row → Tree Outcome
 admitted from row =
-    if is_fast (input_value from.state) then requests from row.code (fast_words from.state) [] else by_memory from row (input_address from.state)
+    if is_fast (input_value from.state) then by_registers from row.code (fast_words from.state) else by_memory from row (input_address from.state)
 
 abbrev pub by_refusal : Origin → Option Row → Option HvStatus → Tree Outcome
 by_refusal from row (Some status) = Ends (refused_call from status)

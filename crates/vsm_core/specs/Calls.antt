@@ -14,16 +14,18 @@ pub record Row : Type 0 where
   pub read : ℕ
   pub output : ℕ
 
--- the calls there are: FlushVirtualAddressSpace, FlushVirtualAddressList, whose elements aren't read, ModifyVtlProtectionMask, EnablePartitionVtl, EnableVpVtl, GetVpRegisters and SetVpRegisters
+-- the calls there are: FlushVirtualAddressSpace, FlushVirtualAddressList, whose elements aren't read, SendSyntheticClusterIpi, ModifyVtlProtectionMask, EnablePartitionVtl, EnableVpVtl, GetVpRegisters, SetVpRegisters and StartVirtualProcessor
 unfoldable pub rows : List Row
 rows =
     record { code = 0x0002; is_rep = false; may_be_fast = false; header = 24; element = 0; read = 0; output = 0 } ∷
     record { code = 0x0003; is_rep = true; may_be_fast = false; header = 24; element = 8; read = 0; output = 0 } ∷
+    record { code = 0x000B; is_rep = false; may_be_fast = true; header = 16; element = 0; read = 0; output = 0 } ∷
     record { code = 0x000C; is_rep = true; may_be_fast = false; header = 16; element = 8; read = 8; output = 0 } ∷
     record { code = 0x000D; is_rep = false; may_be_fast = true; header = 16; element = 0; read = 0; output = 0 } ∷
     record { code = 0x000F; is_rep = false; may_be_fast = false; header = 240; element = 0; read = 0; output = 0 } ∷
     record { code = 0x0050; is_rep = true; may_be_fast = false; header = 16; element = 4; read = 4; output = 16 } ∷
-    record { code = 0x0051; is_rep = true; may_be_fast = false; header = 16; element = 32; read = 32; output = 0 } ∷ []
+    record { code = 0x0051; is_rep = true; may_be_fast = false; header = 16; element = 32; read = 32; output = 0 } ∷
+    record { code = 0x0099; is_rep = false; may_be_fast = false; header = 240; element = 0; read = 0; output = 0 } ∷ []
 
 -- the call of a code
 unfoldable pub row_of : ℕ → Option Row

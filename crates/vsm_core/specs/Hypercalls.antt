@@ -6,7 +6,7 @@ use Rattle.vsm_base.specs.declared.status.HvStatus.{HvStatus}
 use Rattle.vsm_base.specs.declared.status.TheConstants.HvStatus as statuses
 use Rattle.vsm_core.specs.declared.mark.What.TheVariants.{Reply as Result}
 use Rattle.vsm_core.specs.declared.request.PartCall.{PartCall}
-use Rattle.vsm_core.specs.declared.request.PartCall.TheVariants.{EnablePartition, EnableVp, Modify, Flush}
+use Rattle.vsm_core.specs.declared.request.PartCall.TheVariants.{EnablePartition, EnableVp, Start, Modify, Flush}
 use Rattle.vsm_core.specs.declared.request.Reply.{Reply}
 use Rattle.vsm_core.specs.declared.request.Request.{Request}
 use Rattle.vsm_core.specs.Calls.{Row, Check, check, is_fast, count_in, start_in, form_checks, first_failed, result_value}
@@ -62,7 +62,8 @@ abbrev pub call_of : (code : ℕ) → (header elements : List ℕ) → (start co
 call_of code header elements start count =
     if code == 0x000C then Modify header (record { items = elements }) start count
     else (if code == 0x000D then EnablePartition header
-    else (if code == 0x000F then EnableVp header else Flush count))
+    else (if code == 0x000F then EnableVp header
+    else (if code == 0x0099 then Start header else Flush count)))
 
 -- the processor asks this of the partition
 abbrev pub asked_of : Origin → PartCall → Request

@@ -1,5 +1,5 @@
 -- What attempts leave as it was.
-use Rattle.std.specs.Prelude.{◌≡◌, ◌≢◌, ℕ, ◌+◌, Some, List, [], ◌∷◌, length, take}
+use Rattle.std.specs.Prelude.{◌≡◌, ◌≢◌, ℕ, ◌+◌, true, Some, List, [], ◌∷◌, length, take}
 use Rattle.vsm_base.specs.declared.name.Name.{Name}
 use Rattle.vsm_base.specs.declared.name.Name.TheVariants as names
 use Rattle.vsm_base.specs.declared.places.Vtl.{Vtl}
@@ -57,11 +57,11 @@ abbrev pub SetsNone : Vtl → Program → Vp → Type 0
 SetsNone One program v = Unit {0}
 SetsNone Zero program v = operation_at program v.state ≡ Some Hypercall → code_in (input_value v.state) ≢ 0x0051
 
--- each of them begins at the other level, none enables level 1, and none sets registers of this level by a call
+-- the processor has started, each of them begins at the other level, none enables level 1, and none sets registers of this level by a call
 abbrev pub IsAway : Vtl → Program → Vp → List (PartitionState × Flat) → Type 0
 IsAway level program v [] = Unit {0}
 IsAway level program v (e ∷ es) =
-    (v.state.active ≡ other_level level) × ((attempted program v e.0 e.1).vp.state.enabled ≡ v.state.enabled) × SetsNone level program v × IsAway level program (attempted program v e.0 e.1).vp es
+    (v.started ≡ true) × (v.state.active ≡ other_level level) × ((attempted program v e.0 e.1).vp.state.enabled ≡ v.state.enabled) × SetsNone level program v × IsAway level program (attempted program v e.0 e.1).vp es
 
 -- a refused request changes nothing, and the journal says why
 pub record RefusesAll (s : PartitionState) (r : Request) : Type 0 where

@@ -8,6 +8,7 @@ pub mod Controllers
 pub mod Entries
 pub mod Fills
 pub mod Hypercalls
+pub mod Interrupts
 pub mod Journal
 pub mod Keeps
 pub mod Messages
@@ -22,6 +23,7 @@ pub mod Seat
 pub mod Served
 pub mod Sound
 pub mod Stand
+pub mod Starts
 pub mod State
 pub mod Status
 pub mod Steps

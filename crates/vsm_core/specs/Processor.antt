@@ -5,8 +5,9 @@ use Rattle.vsm_base.specs.declared.places.Vtl.{Vtl}
 use Rattle.vsm_base.specs.declared.places.Vtl.TheVariants.{Zero, One}
 use Rattle.vsm_core.specs.declared.event.Event.{Event}
 use Rattle.vsm_core.specs.declared.event.Event.TheVariants as events
+use Rattle.vsm_core.specs.declared.event.PendingWord.TheVariants.{Start}
 use Rattle.vsm_core.specs.declared.mark.What.{What}
-use Rattle.vsm_core.specs.declared.mark.What.TheVariants.{Again, Denied, Fault, Hit}
+use Rattle.vsm_core.specs.declared.mark.What.TheVariants.{Again, Denied, Fault, Hit, Started}
 use Rattle.vsm_core.specs.declared.mark.Posted.{Posted}
 use Rattle.vsm_core.specs.declared.mark.Posted.TheVariants.{Held}
 use Rattle.vsm_core.specs.declared.mark.GuestFault.TheVariants.{Undefined}
@@ -22,8 +23,9 @@ use Rattle.vsm_core.specs.declared.request.Reply.{Reply}
 use Rattle.vsm_core.specs.declared.request.Request.{Request}
 use Rattle.vsm_core.specs.Served.{answer, after, block}
 use Rattle.vsm_core.specs.State.{State, rip_of, opening_state}
+use Rattle.vsm_core.specs.Starts.{start_tree}
 use Rattle.vsm_core.specs.Steps.{learned, made}
-use Rattle.vsm_core.specs.Tree.{Tree, Ends, Asks, Wants, WordStep, followed}
+use Rattle.vsm_core.specs.Tree.{Tree, Ends, Asks, Wants, WordStep, Taking, followed}
 use Rattle.vsm_core.specs.Attempt.{attempt, most_steps_of}
 use Rattle.vsm_core.specs.Controllers.{Controllers, opening_controllers}
 use Rattle.vsm_core.specs.Outcomes.{Origin, Outcome, faulted, origin_in}
@@ -155,6 +157,13 @@ marked v o = record v {
   ended = ending_after v o.what o.state (length (standing v) + 1) v.spins;
 }
 
+-- the processor after its start, whose mark is where its program then stands
+abbrev pub start_mark : Vp → Outcome → Mark
+start_mark v o = record { level = o.state.active; rip = rip_of o.state; what = o.what; first = v.part; count = length v.seen - v.part }
+
+abbrev pub begun : Vp → Outcome → Vp
+begun v o = record (marked v o) { started = true; marks = standing v ++ start_mark v o ∷ [] }
+
 -- the processor after a spin that found another value, and by which it has not ended: the mark stands until the next turn
 abbrev pub marked_again : Vp → Outcome → Vp
 marked_again v o = record v {
@@ -183,6 +192,7 @@ marked_or_ended v o (Some ending) = ended_spinning v ending
 -- the processor after an attempt that came to this
 abbrev pub came_to : What → Vp → Outcome → Vp
 came_to (Again grant) v o = marked_or_ended v o (ending_after v o.what o.state (length (standing v)) (v.spins + 1))
+came_to Started v o = begun v o
 came_to _ v o = marked v o
 
 -- the processor at what is left of its attempt: marked, if that is its end
@@ -214,6 +224,10 @@ answers_of seen first = map learned (drop first seen)
 abbrev pub rest_of : Vp → Option Op → Tree Outcome
 rest_of v op = followed (tree_of (origin_of v) op) v.heard (answers_of v.seen v.first)
 
+-- what is left of the start of a processor
+abbrev pub start_rest : Vp → Tree Outcome
+start_rest v = followed (start_tree (origin_of v)) v.heard (answers_of v.seen v.first)
+
 -- a processor and the words on which it works, and the requests of its attempt that were served, each with its entries
 pub record Did (W : Type 0) : Type 0 where
   pub vp : Vp
@@ -234,10 +248,21 @@ module _ {W : Type 0} (answers : W → WordStep → ℕ) (changes : W → WordSt
       does_all s op (saw op v (made step (answers words step))) (changes words step) (k (answers words step))
   does_all s op v words (Wants q k) = served_first q (block s q) (does_all (after s q) op (answered (answer s q) (asking op v)) (adds words (block s q)) (k (answer s q)))
 
--- the whole attempt of the operation where its program stands, at once
+  -- a processor that hasn't started looks at its start word: it starts where that was posted to, and else does nothing
+  abbrev pub wakes : PartitionState → Vp → W → Did W
+  wakes s v words =
+      if answers words (Taking Start) == 0 then record { vp = v; words = words; served = [] }
+      else does_all s None v words (start_tree (origin_of v))
+
+  -- one that has started makes the whole attempt of the operation where its program stands
+  abbrev pub acts : Program → PartitionState → Vp → W → Did W
+  acts program s v words =
+      if v.started then does_all s (operation_at program v.state) v words (tree_of (origin_of v) (operation_at program v.state))
+      else wakes s v words
+
+-- a processor acts at once
 unfoldable pub attempted : Program → Vp → PartitionState → Flat → Did Flat
-attempted program v s flat =
-    does_all (answer_in v.limits v.number) (flat_after v.limits v.number) with_entries s (operation_at program v.state) v flat (tree_of (origin_of v) (operation_at program v.state))
+attempted program v s flat = acts (answer_in v.limits v.number) (flat_after v.limits v.number) with_entries program s v flat
 
 -- the marks that a processor has left since it was so
 abbrev pub new_marks : Vp → Vp → List Mark
@@ -247,10 +272,10 @@ new_marks old new = drop (length (standing old)) new.marks
 abbrev pub IsShort : Mark → Type 0
 IsShort mark = mark.count ≤ most_steps_of mark.what
 
--- the same processor: what it was made with stays
+-- the same processor: what it was made with stays, and once it has started it has
 pub record IsSameProcessor (old new : Vp) : Type 0 where
   pub number : new.number ≡ old.number
   pub limits : new.limits ≡ old.limits
   pub zero_length : new.zero_length ≡ old.zero_length
   pub one_length : new.one_length ≡ old.one_length
-  pub started : new.started ≡ old.started
+  pub started : old.started ≡ true → new.started ≡ true

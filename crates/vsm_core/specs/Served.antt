@@ -8,16 +8,18 @@ use Rattle.vsm_base.specs.declared.status.HvStatus.{HvStatus}
 use Rattle.vsm_base.specs.declared.status.TheConstants.HvStatus as statuses
 use Rattle.vsm_core.specs.Blocks.{round}
 use Rattle.vsm_core.specs.Calls.{first_failed}
-use Rattle.vsm_core.specs.Partition.{standing, named, index_of, enable_partition_checks, enable_vp_checks}
+use Rattle.vsm_core.specs.Partition.{standing, named, index_of, target_of, enable_partition_checks, enable_vp_checks, start_checks}
 use Rattle.vsm_core.specs.Protection.{map_flags, modify_checks, page_refusals, config_checks, asks_for, asks_for_all}
 use Rattle.vsm_core.specs.Reps.{acting, refusing}
 use Rattle.vsm_core.specs.Status.{partition_status, protects, default_mask}
+use Rattle.vsm_core.specs.Targets.{level_of}
 use Rattle.vsm_core.specs.declared.journal.Entry.{Entry}
 use Rattle.vsm_core.specs.declared.journal.Entry.TheVariants as entries
+use Rattle.vsm_core.specs.declared.partition_state.Accepted.{Accepted}
 use Rattle.vsm_core.specs.declared.partition_state.PartitionState.{PartitionState}
 use Rattle.vsm_core.specs.declared.partition_state.Standing.{Standing}
 use Rattle.vsm_core.specs.declared.request.PartCall.{PartCall}
-use Rattle.vsm_core.specs.declared.request.PartCall.TheVariants.{EnablePartition, EnableVp, Modify, Flush, ReadStatus, ReadConfig, WriteConfig}
+use Rattle.vsm_core.specs.declared.request.PartCall.TheVariants.{EnablePartition, EnableVp, Start, Modify, Flush, ReadStatus, ReadConfig, WriteConfig, Fetch}
 use Rattle.vsm_core.specs.declared.request.Reply.{Reply}
 use Rattle.vsm_core.specs.declared.request.Request.{Request}
 
@@ -58,6 +60,33 @@ enable_vp s by vp context = record {
   after = record s { vps = slice_set s.vps vp (leveled (vp == by.0) (standing s vp) context) };
 }
 
+-- a start is accepted: its level and its context wait for the processor, whose start word is posted to with the entry
+abbrev pub accepted : Standing → Vtl → List ℕ → Standing
+accepted p level context = record p { start = Some (record { level = level; context = context }) }
+
+abbrev pub start_vp : PartitionState → VpIndex → ℕ → Vtl → List ℕ → Service
+start_vp s by vp level context = record {
+  block = entries.Start by (record { 0 = vp }) level ∷ [];
+  reply = record { status = statuses.SUCCESS; done = 0; value = 0; context = None };
+  after = record s { vps = slice_set s.vps vp (accepted (standing s vp) level context) };
+}
+
+-- a starting processor fetches the level and the context of its start, and level 1's context that has waited, if one has; it is started then
+abbrev pub fetched : Standing → Standing
+fetched p = record p { started = true; start = None; waiting = None }
+
+abbrev pub fetch : PartitionState → VpIndex → Accepted → Service
+fetch s by start = record {
+  block = entries.Fetch by ∷ [];
+  reply = record { status = statuses.SUCCESS; done = 0; value = 0; context = Some (start.level, start.context, (standing s by.0).waiting) };
+  after = record s { vps = slice_set s.vps by.0 (fetched (standing s by.0)) };
+}
+
+-- there is nothing to fetch where no start was accepted
+abbrev pub fetch_of : PartitionState → VpIndex → Option Accepted → Service
+fetch_of s by None = refused s by 0 statuses.INVALID_VP_STATE
+fetch_of s by (Some start) = fetch s by start
+
 -- a register of the partition that has this value is read, and nothing changes
 abbrev pub look : PartitionState → VpIndex → ℕ → Service
 look s by value = record {
@@ -95,17 +124,18 @@ write_config s by value =
       after = record s { config = value };
     }
 
--- a call that isn't built yet is one that there isn't
 abbrev pub serve_call : PartitionState → VpIndex → Vtl → PartCall → Service
 serve_call s by level (EnablePartition words) = judged s by 0 (first_failed (enable_partition_checks s words)) (enable_partition s by)
 serve_call s by level (EnableVp words) =
     judged s by 0 (first_failed (enable_vp_checks s by.0 level (named by.0 (index_of words)) words (drop 2 words))) (enable_vp s by (named by.0 (index_of words)) (drop 2 words))
+serve_call s by level (Start words) =
+    judged s by 0 (first_failed (start_checks s level (named by.0 (index_of words)) words (drop 2 words))) (start_vp s by (named by.0 (index_of words)) (level_of (target_of words)) (drop 2 words))
 serve_call s by level (Modify header pages start total) = judged s by start (first_failed (modify_checks s level header)) (modify s by (map_flags header) pages.items start)
 serve_call s by level (Flush total) = with_round s by [] [] statuses.SUCCESS total
 serve_call s by level ReadStatus = look s by (partition_status s.enabled)
 serve_call s by level ReadConfig = look s by s.config
 serve_call s by level (WriteConfig value) = judged s by 0 (first_failed (config_checks s.config value)) (write_config s by value)
-serve_call s by level _ = refused s by 0 statuses.INVALID_HYPERCALL_CODE
+serve_call s by level Fetch = fetch_of s by (standing s by.0).start
 
 abbrev pub serve : PartitionState → Request → Service
 serve s r = serve_call s r.by r.level r.call

@@ -26,3 +26,7 @@ protects config = config % 2 == 1
 
 abbrev pub default_mask : ℕ → ℕ
 default_mask config = config / 2 % 2 ^ 4
+
+-- bit 6 denies level 0 to start processors
+abbrev pub denies_startup : ℕ → Bool
+denies_startup config = config / 2 ^ 6 % 2 == 1

@@ -1,11 +1,13 @@
 -- What a whole attempt works on at once: the journal, by which the masks and the generation are known, a list of posted words and a list of memory words.
 use Rattle.std.specs.Prelude.{ℕ, ◌+◌, ◌*◌, List, ◌++◌, bit_or, slice_index, slice_set}
+use Rattle.std.specs.List.{fold}
 use Rattle.vsm_base.specs.declared.places.Limits.{Limits}
 use Rattle.vsm_base.specs.Levels.{level_number}
 use Rattle.vsm_core.specs.declared.event.PendingWord.{PendingWord}
 use Rattle.vsm_core.specs.declared.event.PendingWord.TheVariants.{Start, Vectors}
 use Rattle.vsm_core.specs.Journal.{masks, rounds}
 use Rattle.vsm_core.specs.declared.journal.Entry.{Entry}
+use Rattle.vsm_core.specs.declared.journal.Entry.TheVariants as entries
 use Rattle.vsm_core.specs.Tree.{WordStep, Entering, Checking, Masking, Reading, Writing, Leaving, Posting, Taking}
 
 -- the place of a memory word among all words of memory
@@ -32,9 +34,14 @@ masks_in flat = masks flat.opening flat.journal
 abbrev pub generation_in : Flat → ℕ
 generation_in flat = rounds flat.journal
 
+-- the posted words after an entry: that of a start posts to the processor's start word
+abbrev pub posted_by_entry : List ℕ → Entry → List ℕ
+posted_by_entry posted (entries.Start by vp level) = slice_set posted vp.0 (bit_or (slice_index posted vp.0) 1)
+posted_by_entry posted _ = posted
+
 -- once a request has added these entries
 abbrev pub with_entries : Flat → List Entry → Flat
-with_entries flat entries = record flat { journal = flat.journal ++ entries }
+with_entries flat added = record flat { journal = flat.journal ++ added; posted = fold posted_by_entry flat.posted added }
 
 -- what a step of a processor learns
 abbrev pub answer_in : Limits → ℕ → Flat → WordStep → ℕ

@@ -8,7 +8,7 @@ ghost use Rattle.vsm_core.specs.Blocks.{IsWhole as IsWholeJournal};
 ghost use Rattle.vsm_core.specs.Entries.{words_by_entries};
 ghost use Rattle.vsm_core.specs.Hypercalls.{input_value, refused_call};
 ghost use Rattle.vsm_core.specs.Keeps.{EndsIn, KeepsTheRest, RefusesAll, RefusesRest, after_attempts, IsAway};
-ghost use Rattle.vsm_core.specs.Processor.{Vp, does_all, origin_of};
+ghost use Rattle.vsm_core.specs.Processor.{Vp, acts};
 ghost use Rattle.vsm_base.specs.declared.name.Name.{Name};
 ghost use Rattle.vsm_base.specs.declared.name.Name.TheVariants.{Rcx};
 ghost use Rattle.vsm_core.specs.Calls.{start_in, count_in};
@@ -29,6 +29,7 @@ ghost use Rattle.vsm_core.specs.Attempt.{attempt, gets_by, sets_by, served, most
 ghost use Rattle.vsm_core.specs.Controllers.{Controllers};
 ghost use Rattle.vsm_core.specs.Outcomes.{Origin, origin_in};
 ghost use Rattle.vsm_core.specs.Sound.{Sound, IsOver};
+ghost use Rattle.vsm_core.specs.Starts.{start_tree};
 ghost use Rattle.vsm_core.specs.Steps.{phase_of};
 ghost use Rattle.vsm_base.specs.declared.places.Limits.{Limits};
 ghost use Rattle.vsm_core.specs.Whole.{Flat, answer_in, flat_after, with_entries};
@@ -37,30 +38,34 @@ ghost use Rattle.vsm_core.specs.declared.event.Event.{Event};
 ghost use Rattle.vsm_core.specs.declared.event.Phase.TheVariants.{Idle};
 ghost use Rattle.vsm_core.specs.declared.operation.Op.{Op};
 
-/// An attempt of one of the processors asks each step only where it may be made, whatever the words answer, and ends
-/// between two accesses.
+/// An attempt of one of the processors, or its start, asks each step only where it may be made, whatever the words answer,
+/// and ends between two accesses.
 pub fn attempts_are_sound()
-    ensures { (limits : Limits) (p : ℕ) (state : State) (controllers : Controllers) (op : Op) (events : List Event) → p < limits.vps → phase_of events ≡ Idle
+    ensures attempts { (limits : Limits) (p : ℕ) (state : State) (controllers : Controllers) (op : Op) (events : List Event) → p < limits.vps → phase_of events ≡ Idle
         → Sound limits IsOver events (attempt (origin_in limits p state controllers) op) }
+    ensures starts { (limits : Limits) (p : ℕ) (state : State) (controllers : Controllers) (events : List Event) → p < limits.vps → phase_of events ≡ Idle
+        → Sound limits IsOver events (start_tree (origin_in limits p state controllers)) }
 {}
 
 /// Whatever the words answer, an attempt has at most thirteen steps, and at most twelve where it is denied without
 /// level 1. Where level 1 is told of a denial, its message and its entry add at most fifteen to these twelve. An end of
-/// message has at most seventeen, an intercepted register eighteen, and a hypercall thirty-eight.
+/// message has at most seventeen, an intercepted register eighteen, and a hypercall thirty-eight. There are at most eight
+/// processors, which is what a call that interrupts them rests on.
 pub fn attempts_are_short()
-    ensures { (from : Origin) (op : Op) → Counts most_steps 0 (attempt from op) }
+    ensures attempts { (from : Origin) (op : Op) → from.vps ≤ 8 → Counts most_steps 0 (attempt from op) }
+    ensures starts { (from : Origin) → Counts most_steps 0 (start_tree from) }
 {}
 
-/// An attempt whose steps, and those of its requests, are made one by one on all the shared words comes to what it comes to
-/// at once over the journal, the posted words and the memory: the masks that the words hold are those of the journal, and
-/// the generation is the number of its reports. It serves the same requests, whose entries the journal then has.
+/// An attempt, or a start, whose steps, and those of its requests, are made one by one on all the shared words comes to what
+/// it comes to at once over the journal, the posted words and the memory: the masks that the words hold are those of the
+/// journal, and the generation is the number of its reports. It serves the same requests, whose entries the journal then has.
 pub fn attempts_are_whole()
-    ensures same { (v : Vp) (s : PartitionState) (op : Op) (words : List ℕ) (flat : Flat) → v.number < v.limits.vps → IsInStep v.limits s flat → Holds v.limits words flat
-        → SameDid v.limits (does_all (answer_of v.limits v.number) (words_by v.limits v.number) (words_by_entries v.limits) s (Some op) v words (attempt (origin_of v) op)) (does_all (answer_in v.limits v.number) (flat_after v.limits v.number) with_entries s (Some op) v flat (attempt (origin_of v) op)) }
-    ensures in_step { (v : Vp) (s : PartitionState) (op : Op) (flat : Flat) → IsInStep v.limits s flat
-        → let did = does_all (answer_in v.limits v.number) (flat_after v.limits v.number) with_entries s (Some op) v flat (attempt (origin_of v) op) in IsInStep v.limits (state_after s did.served) did.words }
-    ensures journal { (v : Vp) (s : PartitionState) (op : Op) (flat : Flat)
-        → let did = does_all (answer_in v.limits v.number) (flat_after v.limits v.number) with_entries s (Some op) v flat (attempt (origin_of v) op) in did.words.journal ≡ flat.journal ++ joined did.served }
+    ensures same { (program : Program) (v : Vp) (s : PartitionState) (words : List ℕ) (flat : Flat) → v.number < v.limits.vps → IsInStep v.limits s flat → Holds v.limits words flat
+        → SameDid v.limits (acts (answer_of v.limits v.number) (words_by v.limits v.number) (words_by_entries v.limits) program s v words) (acts (answer_in v.limits v.number) (flat_after v.limits v.number) with_entries program s v flat) }
+    ensures in_step { (program : Program) (v : Vp) (s : PartitionState) (flat : Flat) → IsInStep v.limits s flat
+        → let did = acts (answer_in v.limits v.number) (flat_after v.limits v.number) with_entries program s v flat in IsInStep v.limits (state_after s did.served) did.words }
+    ensures journal { (program : Program) (v : Vp) (s : PartitionState) (flat : Flat)
+        → let did = acts (answer_in v.limits v.number) (flat_after v.limits v.number) with_entries program s v flat in did.words.journal ≡ flat.journal ++ joined did.served }
 {}
 
 /// A hypercall that is refused before its first step keeps all of its processor but RAX and the active level's Rip.

@@ -22,7 +22,7 @@ pub use laws::{
 pub use mark::{Denial, Ending, EomWord, Grant, GuestFault, Mark, Posted, What};
 pub use note::{MemNote, Note, RegNote};
 pub use operation::{Op, Operand, Program};
-pub use partition_state::{PartitionState, Standing};
+pub use partition_state::{Accepted, PartitionState, Standing};
 pub use register::CallRegister;
 pub use request::{Heard, PartCall, Reply, Request, Served};
 pub use view::{PartitionView, ProcessorView, Told, Turning, View};

@@ -1,5 +1,12 @@
 // What the partition knows between two requests.
-use vsm_base::Items;
+use vsm_base::{Items, Vtl};
+
+/// A start that was accepted: the level at which the processor starts, and the words of that level's context.
+#[derive(Clone, Copy, Debug, PartialEq, Eq)]
+pub struct Accepted {
+    pub level: Vtl,
+    pub context: [u64; 28],
+}
 
 /// What the partition knows of one processor.
 #[derive(Clone, Copy, Debug, PartialEq, Eq)]
@@ -8,6 +15,8 @@ pub struct Standing {
     pub one: bool,
     /// Whether it is started.
     pub started: bool,
+    /// The start that waits for it to fetch its contexts.
+    pub start: Option<Accepted>,
     /// The words of level 1's context that wait for its start.
     pub waiting: Option<[u64; 28]>,
 }
