@@ -1,6 +1,5 @@
 -- No attempt of an operation comes to a start.
 use Rattle.std.proofs.Common.{ℕ, ◌==◌, ◌&&◌, Bool, true, false, cond, Option, List, []}
-use Rattle.vsm_base.specs.declared.name.Name.{Name}
 use Rattle.vsm_core.specs.declared.mark.Grant.{Grant}
 use Rattle.vsm_core.specs.declared.mark.GuestFault.TheVariants.{Gp, Undefined}
 use Rattle.vsm_core.specs.declared.mark.EomWord.TheVariants as eoms
@@ -12,7 +11,7 @@ use Rattle.vsm_core.specs.declared.operation.Op.TheVariants.{Set, Get, Spin}
 use Rattle.vsm_core.specs.Attempt.{is_wanted, wanted_outcome, unwanted_outcome}
 use Rattle.vsm_core.specs.Controllers.{Controllers, eom_by, waiting_then, with_taken}
 use Rattle.vsm_core.specs.Fills.{Cached}
-use Rattle.vsm_core.specs.Outcomes.{Origin, Outcome, outcome_at, faulted, plain, passed, set_outcome, get_outcome, empties, note_of, denied_outcome, held_outcome, hit_outcome, eom_outcome}
+use Rattle.vsm_core.specs.Outcomes.{Origin, Outcome, outcome_at, faulted, plain, passed, empties, note_of, denied_outcome, held_outcome, hit_outcome, eom_outcome}
 use Rattle.vsm_core.specs.RegisterCalls.{slice_outcome}
 use Rattle.vsm_core.specs.Registers.{is_legal}
 use Rattle.vsm_core.specs.Reps.{RepEnd, Refused as ByElement, GoesOn, Complete}

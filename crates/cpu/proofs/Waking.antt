@@ -1,8 +1,6 @@
 -- A processor that waits for its start, and how it starts.
-use Rattle.std.proofs.Common.{◌≡◌, ◌+◌, ◌==◌, ℕ, true, false, Bool, List, [], ◌∷◌, ◌++◌, length, refl, ap, Option, Some, None}
+use Rattle.std.proofs.Common.{◌≡◌, ◌+◌, ℕ, true, false, Bool, List, [], ◌∷◌, ◌++◌, length, refl, ap, Option, Some, None}
 use Rattle.vsm_core.specs.declared.event.Event.{Event}
-use Rattle.vsm_core.specs.declared.event.Event.TheVariants.{Take}
-use Rattle.vsm_core.specs.declared.event.PendingWord.TheVariants.{Start}
 use Rattle.vsm_core.specs.declared.mark.Ending.{Ending}
 use Rattle.vsm_core.specs.declared.mark.What.TheVariants.{Started}
 use Rattle.vsm_core.specs.declared.request.Heard.{Heard}
@@ -11,13 +9,12 @@ use Rattle.vsm_core.specs.declared.request.Reply.{Reply}
 use Rattle.vsm_core.specs.declared.request.Request.{Request}
 use Rattle.vsm_core.specs.Hypercalls.{asked_of}
 use Rattle.vsm_core.specs.Outcomes.{Origin, Outcome}
-use Rattle.vsm_core.specs.Processor.{Vp, answers_of, answered, asking, ending_after, origin_of, saw, settled, start_mark, start_rest}
-use Rattle.vsm_core.specs.Seat.{Seat, Makes}
+use Rattle.vsm_core.specs.Processor.{Vp, answers_of, answered, asking, ending_after, origin_of, settled, start_mark, start_rest}
+use Rattle.vsm_core.specs.Seat.{Seat}
 use Rattle.vsm_core.specs.Starts.{start_outcome, start_tree, started_by}
 use Rattle.vsm_core.specs.State.{State}
-use Rattle.vsm_core.specs.Tree.{Tree, Ends, Wants, Taking, followed}
+use Rattle.vsm_core.specs.Tree.{Tree, Ends, Wants, followed}
 use Rattle.cpu.specs.declared.cpu_turn.CpuTurn.{CpuTurn}
-use Rattle.cpu.specs.declared.cpu_turn.CpuTurn.TheVariants.{Moved, Idle}
 use Rattle.cpu.specs.declared.cpu_turn.CpuTurn.TheVariants as turns
 use Rattle.cpu.specs.declared.stage.Under.{Under}
 use Rattle.cpu.specs.declared.processor.Cpu.TheInside.{Inside}
@@ -35,7 +32,7 @@ pub known : (i : Inside) → IsSound i → i.started ≡ true → Means (origin_
 known i sound is = once-started i.started (origin_at i.limits i.vp.0 i.bank i.levels i.controllers) i.under i.heard i.log.seen.0 i.log.part i.log.first is sound.means
 
 -- what a start asks for, and what it comes to
-abbrev fetches : Origin → Tree Outcome
+abbrev pub fetches : Origin → Tree Outcome
 fetches from = Wants (asked_of from Fetch) (λ reply. Ends (start_outcome from reply))
 
 after-look : (from : Origin) (seen : List Event) → length seen ≡ 1 → followed (start_tree from) None (answers_of seen 0) ≡ fetches from
@@ -47,25 +44,12 @@ before-look : (from : Origin) (seen : List Event) → length seen ≡ 0 → foll
 before-look from [] e = refl
 before-look from (x ∷ seen) e = cc
 
+-- what is left once it has taken its start word, and before
 pub looked-rest : (v : Vp) → IsWaiting v → length v.seen ≡ 1 → start_rest v ≡ fetches (origin_of v)
 looked-rest v w one = rw (w.heard, w.first) (after-look (origin_of v) v.seen one)
 
 pub waiting-rest : (v : Vp) → IsWaiting v → length v.seen ≡ 0 → start_rest v ≡ start_tree (origin_of v)
 waiting-rest v w none = rw (w.heard, w.first) (before-look (origin_of v) v.seen none)
-
--- a look that finds nothing
-pub woken-idle : (v : Vp) (old new : Seat) (x : ℕ) → IsWaiting v → length v.seen ≡ 0 → Makes old (Taking Start) x new → x ≡ 0 → Wakes v old v new Idle
-woken-idle v old new x w none makes zero = rw (waiting-rest v w none) (x, makes, rw zero (refl, refl))
-
-abbrev looked_at : Vp → ℕ → Vp
-looked_at v x = record v { seen = v.seen ++ Take Start x ∷ [] }
-
-saw-waiting : (v : Vp) (x : ℕ) → IsWaiting v → looked_at v x ≡ saw None v (Take Start x)
-saw-waiting v x w = rw (w.op, w.again) refl
-
--- a look that finds a start
-pub woken-looks : (v n : Vp) (old new : Seat) (x : ℕ) → IsWaiting v → length v.seen ≡ 0 → Makes old (Taking Start) x new → (x == 0) ≡ false → n ≡ looked_at v x → Wakes v old n new Moved
-woken-looks v n old new x w none makes some en = rw (waiting-rest v w none) (x, makes, rw some (rw (← saw-waiting v x w) en, refl))
 
 abbrev asking_so : Vp → Vp
 asking_so v = record v { owes = true }

@@ -418,7 +418,7 @@ impl Cpu {
         ensures left { rest_of (answered reply self.old) self.old.op ≡ by_reply (rest_of self.old self.old.op) reply }
         ensures unheard { self.old.heard ≡ None }
         ensures phase { phase_at self.new.seen self.new.first ≡ phase_at self.old.seen self.old.first }
-        ensures short { All IsShort (drop (length self.old.marks) self.new.marks) }
+        ensures short { All IsShort (new_marks self.old self.new) }
         ensures same { IsSameProcessor self.old self.new }
         ensures owes { self.new.owes ≡ false }
         ensures kept { Keeps self.old self.new }
@@ -443,7 +443,7 @@ impl Cpu {
         ensures begun { AcceptsBy (start_rest self.old) reply.now self.old self.new result }
         ensures unheard { self.old.heard ≡ None }
         ensures phase { phase_at self.new.seen self.new.first ≡ phase_at self.old.seen self.old.first }
-        ensures short { All IsShort (drop (length self.old.marks) self.new.marks) }
+        ensures short { All IsShort (new_marks self.old self.new) }
         ensures same { IsSameProcessor self.old self.new }
         ensures owes { self.new.owes ≡ false }
         ensures kept { Keeps self.old self.new }
@@ -490,7 +490,7 @@ impl Cpu {
         ensures left { self.old.started ≡ true → rest_of (answered reply self.old) self.old.op ≡ by_reply (rest_of self.old self.old.op) reply }
         ensures unheard { self.old.heard ≡ None }
         ensures phase { phase_at self.new.seen self.new.first ≡ phase_at self.old.seen self.old.first }
-        ensures short { All IsShort (drop (length self.old.marks) self.new.marks) }
+        ensures short { All IsShort (new_marks self.old self.new) }
         ensures same { IsSameProcessor self.old self.new }
         ensures owes { self.new.owes ≡ false }
         ensures kept { Keeps self.old self.new }
