@@ -1,5 +1,5 @@
 -- A run under way, and what a processor's whole attempt does to it, whatever the attempt works on.
-use Rattle.std.specs.Prelude.{ℕ, Bool, false, not, ◌&&◌, List, ◌++◌, length, map, Option, Some, None, if◌then◌else◌, nat_lt, is_some, unwrap_or, slice_get, slice_set}
+use Rattle.std.specs.Prelude.{ℕ, Bool, false, not, List, ◌++◌, length, map, Option, Some, None, if◌then◌else◌, nat_lt, is_some, unwrap_or, slice_get, slice_set}
 use Rattle.std.specs.List.{range_with_len}
 use Rattle.vsm_core.specs.declared.journal.Entry.{Entry}
 use Rattle.vsm_core.specs.declared.mark.Mark.{Mark}
@@ -38,9 +38,9 @@ opening_vp s p = opening p s.limits (nat_lt p s.started) (length (program_at s.p
 unfoldable pub opening_vps : Script → List Vp
 opening_vps s = map (opening_vp s) (range_with_len 0 (length s.programs))
 
--- a processor runs: it has started and has not ended
+-- a processor may act: it has not ended. One that hasn't started never has
 abbrev pub is_running : Vp → Bool
-is_running v = v.started && not (is_some v.ended)
+is_running v = not (is_some v.ended)
 
 abbrev pub mark_line : ℕ → Mark → Line
 mark_line p mark = made.Mark (record { 0 = p }) mark
@@ -56,7 +56,7 @@ entry_line entry = made.Entry entry
 abbrev pub attempt_lines : ℕ → List (Request × List Entry) → Vp → Vp → List Line
 attempt_lines p served old new = map entry_line (joined served) ++ new_lines p old new
 
--- how a processor makes its whole attempt with a partition in this state, the state that is kept of the partition, and
+-- how a processor makes its whole attempt, or its start, with a partition in this state, the state that is kept of the partition, and
 -- what is kept of it once these requests were served too
 module _ {W P : Type 0} (attempt : Program → Vp → PartitionState → W → Did W) (state_in : P → PartitionState) (keeps : P → List (Request × List Entry) → P) where
   -- the world after this attempt of the processor of this number, which was so before
@@ -68,7 +68,7 @@ module _ {W P : Type 0} (attempt : Program → Vp → PartitionState → W → D
     lines = w.lines ++ attempt_lines p did.served v did.vp;
   }
 
-  -- a processor that runs makes its whole attempt over the words and the partition as they stand; any other does nothing
+  -- a processor that hasn't ended makes its whole attempt, or its start, over the words and the partition as they stand; any other does nothing
   abbrev pub acted_at : Program → ℕ → WorldOf W P → Option Vp → WorldOf W P
   acted_at program p w None = w
   acted_at program p w (Some v) = if is_running v then with_attempt p w v (attempt program v (state_in w.partition) w.words) else w

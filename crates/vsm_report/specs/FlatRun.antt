@@ -31,7 +31,7 @@ opening_flat s = record {
 unfoldable pub opened : Script → World
 opened s = record { words = opening_flat s; partition = []; vps = opening_vps s; lines = [] }
 
--- a processor acts: its whole attempt at once, with the partition in the state that the requests so far lead to from
+-- a processor acts: its whole attempt, or its start, at once, with the partition in the state that the requests so far lead to from
 -- this one
 unfoldable pub acted : PartitionState → List Program → ℕ → World → World
 acted first programs p w = acted_by attempted (state_after first) (λ before more. before ++ more) programs p w

@@ -6,7 +6,7 @@ use Rattle.vsm_core.specs.declared.journal.Entry.{Entry}
 use Rattle.vsm_core.specs.declared.partition_state.PartitionState.{PartitionState}
 use Rattle.vsm_core.specs.declared.request.Request.{Request}
 use Rattle.vsm_core.specs.Entries.{words_by_entries}
-use Rattle.vsm_core.specs.Processor.{Vp, Did, does_all, operation_at, origin_of, tree_of}
+use Rattle.vsm_core.specs.Processor.{Vp, Did, acts}
 use Rattle.vsm_core.specs.Served.{state_after, joined}
 use Rattle.vsm_core.specs.Words.{answer_of, memory_at, words_by}
 use Rattle.guest_script.specs.declared.script.Script.{Script}
@@ -40,13 +40,13 @@ stepped_opening s = record {
   lines = [];
 }
 
--- the steps of the operation where the program stands, up to the mark, each answered by the words as they stand, and its
--- requests by a partition in this state, with the steps of their entries
+-- the steps of the operation where the program stands, or of a start, up to the mark, each answered by the words as they
+-- stand, and its requests by a partition in this state, with the steps of their entries
 unfoldable pub made_steps : Program → Vp → PartitionState → List ℕ → Did (List ℕ)
 made_steps program v state words =
-    does_all (answer_of v.limits v.number) (words_by v.limits v.number) (words_by_entries v.limits) state (operation_at program v.state) v words (tree_of (origin_of v) (operation_at program v.state))
+    acts (answer_of v.limits v.number) (words_by v.limits v.number) (words_by_entries v.limits) program state v words
 
--- a processor acts: its whole attempt step by step
+-- a processor acts: its whole attempt, or its start, step by step
 unfoldable pub stepped : List Program → ℕ → Stepped → Stepped
 stepped programs p w = acted_by made_steps (λ (k : Kept). k.state) after_more programs p w
 
