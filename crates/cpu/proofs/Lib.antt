@@ -10,6 +10,7 @@ pub mod Polls
 pub mod ContextGiven
 pub mod Judged
 pub mod Looked
+pub mod NoStarts
 pub mod Marking
 pub mod InputWords
 pub mod Intercepted
@@ -19,5 +20,6 @@ pub mod Rests
 pub mod Steps
 pub mod Turning
 pub mod Switches
+pub mod Waking
 pub mod SliceEnds
 pub mod SliceRests

@@ -24,6 +24,7 @@ mod registers;
 mod replying;
 mod slices;
 mod stage;
+mod starts;
 mod stepping;
 mod taking;
 mod task;
@@ -46,6 +47,8 @@ mod message_tests;
 mod poll_tests;
 #[cfg(test)]
 mod runs;
+#[cfg(test)]
+mod start_tests;
 #[cfg(test)]
 mod switch_tests;
 #[cfg(test)]
