@@ -16,6 +16,7 @@ pub mod InputWords
 pub mod Intercepted
 pub mod PageSlices
 pub mod Replies
+pub mod Sendings
 pub mod Rests
 pub mod Steps
 pub mod Turning

@@ -28,8 +28,8 @@ returns-then-not-is_going-clause-turned g c =
     (λ grant. again-kept (origin_at i.limits i.vp.0 i.bank i.levels i.controllers) i.under u i.heard i.log.seen.0 i.log.part i.log.first ends.0 grant (known i c.self.invariant (rw (← c.self.view_is) at c.requires.started)) c.begun-under.ensures.kept ends.1)
     c.settle.ensures.new c.settle.ensures.turn)
 
-pub judged-stage-requires : goal.judged-stage-requires
-judged-stage-requires g c =
+pub judged-stage-requires-clause-may : goal.judged-stage-requires-clause-may
+judged-stage-requires-clause-may g c =
     let i = c.self.inside in
     let steps : StageSteps c.begun-under.result.stage (g.P.Port.seat c.args.port.now) (g.P.Port.seat c.step-step.new.port) c.step-step.result = c.step-step.ensures in
     steps.is i.limits.pages i.vp.0 (c.begun-under.ensures.means i.heard i.log.seen.0 i.log.part i.log.first (known i c.self.invariant (rw (← c.self.view_is) at c.requires.started))).is
@@ -49,6 +49,7 @@ invariant_of-self-2 g c =
     let started : i.started ≡ true = rw (← c.self.view_is) at c.requires.started in
     rw (c.see.ensures, c.stand.ensures) (record {
       vp = w.vp;
+      vps = w.vps;
       budget = w.budget;
       marks_room = w.marks_room;
       seen_room = w.seen_room;
