@@ -1,5 +1,5 @@
 -- A start, turn by turn, to its end.
-use Rattle.std.proofs.Common.{◌≡◌, ◌≢◌, ◌≤◌, ◌+◌, ◌*◌, ◌==◌, ◌⊎◌, inl, inr, eqb, ℕ, Bool, true, false, cond, None, List, [], ◌∷◌, ◌++◌, drop, get_or, map, length, slice_set, refl, sym, ap, subst, ◌∙◌, append-nil, arith}
+use Rattle.std.proofs.Common.{◌≡◌, ◌≢◌, ◌≤◌, ◌+◌, ◌*◌, ◌==◌, ◌⊎◌, inl, inr, eqb, ℕ, Bool, true, false, cond, None, List, [], ◌∷◌, ◌++◌, drop, get_or, map, length, reverse, slice_set, refl, sym, ap, subst, ◌∙◌, append-nil, arith}
 use Rattle.std.proofs.Math.Seq.{drop-append_seam}
 use Rattle.std.proofs.lemmas.Bool.Decides.{eqb_tells}
 use Rattle.std.proofs.lemmas.List.{set-get_or}
@@ -21,17 +21,18 @@ use Rattle.vsm_core.specs.Protection.{owed}
 use Rattle.vsm_core.specs.Seat.{Seat, Fabric}
 use Rattle.vsm_core.specs.Served.{after, answer, block, joined}
 use Rattle.vsm_core.specs.Starts.{start_outcome, start_tree}
-use Rattle.vsm_core.specs.Steps.{learned, made}
+use Rattle.vsm_core.specs.Steps.{learned, made, phase_of}
 use Rattle.vsm_core.specs.Tree.{Tree, Ends, Taking, follow, followed}
 use Rattle.vsm_core.specs.Words.{answer_of, posted_at, words_by}
 use Rattle.vsm_core.proofs.FewEntries.{few-entries}
 use Rattle.cpu.specs.declared.cpu_turn.CpuTurn.{CpuTurn}
 use Rattle.cpu.specs.declared.cpu_turn.CpuTurn.TheVariants as turns
-use Rattle.cpu.specs.Turns.{AcceptsBy, LooksTo, Wakes, WakesBy}
+use Rattle.cpu.specs.Turns.{AcceptsBy, LooksTo, Wakes, WakesBy, phase_at}
 use Rattle.partition.specs.PartView.{PartView}
 use Rattle.vsm_report.specs.Trace.{made_steps}
-use Rattle.vsm_run.specs.Rests.{IsAtRest}
-use Rattle.vsm_run.specs.Serving.{AddsFew, Agrees, HasRoomForOne, IsDone, with_served}
+use Rattle.vsm_run.specs.Fits.{FitsOne}
+use Rattle.vsm_run.specs.Rests.{AllIdle, IsAtRest, IsInPlace}
+use Rattle.vsm_run.specs.Serving.{AddsFew, Agrees, HasRoomForOne, IsDone, NoneBusy, with_served}
 use Rattle.vsm_run.specs.Starting.{StartsBy, Takes, Waits, fetches, start_word}
 use Rattle.vsm_run.proofs.BusyWords.{taking-agrees}
 use Rattle.vsm_run.proofs.Finishes.{none-seen, picked}
@@ -56,13 +57,15 @@ rest-all v rests unheard =
     let t = start_tree (origin_of v) in
     ap (λ h. followed t h (answers_of v.seen v.first)) unheard ∙ ap (λ es. follow t (map learned es)) (none-seen v.seen v.first rests)
 
+one-seen : (v : Vp) (e : Event) → IsAtRest v → drop v.first (v.seen ++ e ∷ []) ≡ e ∷ []
+one-seen v e rests = ap (λ n. drop n (v.seen ++ e ∷ [])) rests ∙ drop-append_seam v.seen (e ∷ [])
+
 -- then the fetch is left
 rest-taken : (x : ℕ) (v : Vp) → IsAtRest v → v.heard ≡ None → start_rest (taken x v) ≡ fetches (origin_of v)
 rest-taken x v rests unheard =
     let t = start_tree (origin_of v) in
     let e : Event = made (Taking Start) x in
-    let one : drop v.first (v.seen ++ e ∷ []) ≡ e ∷ [] = ap (λ n. drop n (v.seen ++ e ∷ [])) rests ∙ drop-append_seam v.seen (e ∷ []) in
-    ap (λ h. followed t h (answers_of (v.seen ++ e ∷ []) v.first)) unheard ∙ ap (λ es. follow t (map learned es)) one
+    ap (λ h. followed t h (answers_of (v.seen ++ e ∷ []) v.first)) unheard ∙ ap (λ es. follow t (map learned es)) (one-seen v e rests)
 
 starts-by : (turn answer : CpuTurn) (limits : Limits) (v n : Vp) (words now : List ℕ) → turn ≡ answer → StartsBy answer limits v n words now → StartsBy turn limits v n words now
 starts-by turn answer limits v n words now e h = subst (λ t. StartsBy t limits v n words now) (sym e) h
@@ -98,8 +101,8 @@ module _ (limits : Limits) (v n : Vp) (before now : Seat) (f g : Fabric) (turn :
     step : Stepped limits v.number (Taking Start) looked.0 before.phase f g
     step = makes-told limits v.number (Taking Start) looked.0 before now f g t looked.1
 
-    pub turn-takes : StartsBy turn limits v n f.words g.words
-    turn-takes = looks-to looked.0 step looked.2
+    pub turn-takes : (last : List ℕ) → g.words ≡ last → StartsBy turn limits v n f.words last
+    turn-takes last e = subst (StartsBy turn limits v n f.words) e (looks-to looked.0 step looked.2)
 
     pub take-phases : before.phase ≡ get_or f.phases v.number Idle → g.phases ≡ f.phases
     take-phases phase = step.phases ∙ ap (slice_set f.phases v.number) phase ∙ set-get_or f.phases v.number Idle
@@ -109,6 +112,12 @@ module _ (limits : Limits) (v n : Vp) (before now : Seat) (f g : Fabric) (turn :
 
     pub take-agrees : before.phase ≡ get_or f.phases v.number Idle → Agrees limits f → Agrees limits g
     take-agrees phase agrees = taking-agrees limits v.number Start f g step.words (take-phases phase) agrees
+
+-- a turn that took no start
+pub takes-none : (turn : CpuTurn) (limits : Limits) (v n : Vp) (words now : List ℕ) → turn ≢ turns.Moved → StartsBy turn limits v n words now → Waits limits v n words now
+takes-none turns.Moved limits v n words now other h = absurd (other refl)
+takes-none turns.Idle limits v n words now other h = h
+takes-none _ limits v n words now other h = absurd h
 
 -- the fetch is asked for with no step
 pub record Fetches (v n : Vp) (before now : Seat) (turn : CpuTurn) : Type 0 where
@@ -129,7 +138,7 @@ module _ (program : Program) (limits : Limits) (v : Vp) (s : PartitionState) (wo
   abbrev does_start : Limits → Did (List ℕ)
   does_start l = does_all (answer_of l v.number) (words_by l v.number) (words_by_entries l) s None v words (start_tree (origin_of v))
 
-  -- what it does where the start word is 0, and where it was posted to
+  -- nothing where the start word is 0
   made-waits : start_word limits v words ≡ 0 → made_steps program v s words ≡ record { vp = v; words = words; served = [] }
   unfolding made_steps
   made-waits none =
@@ -140,14 +149,15 @@ module _ (program : Program) (limits : Limits) (v : Vp) (s : PartitionState) (wo
   is_other (inl zero) some = absurd (some zero.1)
   is_other (inr other) some = other.0
 
+  -- a start where it was posted to
   made-starts : start_word limits v words ≢ 0 → made_steps program v s words ≡ does_start limits
   unfolding made_steps
   made-starts some =
       let other : (start_word v.limits v words == 0) ≡ false = rw same (is_other (eqb_tells (start_word limits v words) 0) some) in
       passed_by v.started _ _ waits ∙ passed_by (start_word v.limits v words == 0) _ _ other ∙ ap does_start same
 
-  pub waits-done : (n : Vp) (now : List ℕ) (before : PartView) → before.state ≡ s → Waits limits v n words now → IsDone (made_steps program v s words) n now before before
-  waits-done n now before state is =
+  pub waits-done : (n : Vp) (now : List ℕ) (before : PartView) → Waits limits v n words now → IsDone (made_steps program v s words) n now before before
+  waits-done n now before is =
       let e = made-waits is.none in
       record {
         vp = is.same ∙ sym (ap (λ (d : Did (List ℕ)). d.vp) e);
@@ -158,18 +168,50 @@ module _ (program : Program) (limits : Limits) (v : Vp) (s : PartitionState) (wo
   pub waits-few : (each : ℕ) (before : PartView) → start_word limits v words ≡ 0 → AddsFew each (made_steps program v s words) before before
   waits-few each before none = subst (λ (d : Did (List ℕ)). AddsFew each d before before) (sym (made-waits none)) (omega arith)
 
+-- what a processor that took a start has and may do
+pub record MayFetch (program : Program) (limits : Limits) (phases : List Phase) (m : Vp) : Type 0 where
+  pub going : m.ended ≡ None
+  pub waits : m.started ≡ false
+  pub answered : m.owes ≡ false
+  pub fits : FitsOne program m
+  pub limits_same : m.limits ≡ limits
+  pub phase : get_or phases m.number Idle ≡ phase_at m.seen m.first
+  pub left : start_rest m ≡ fetches (origin_of m)
+
+taken-fetches : (program : Program) (limits : Limits) (phases : List Phase) (x : ℕ) (v : Vp) → IsInPlace limits v.number v → FitsOne program v → v.ended ≡ None → v.started ≡ false → AllIdle phases → MayFetch program limits phases (taken x v)
+taken-fetches program limits phases x v place fits going waits idle = record {
+  going = going;
+  waits = waits;
+  answered = place.answered;
+  fits = record { zero = fits.zero; one = fits.one; kept = tt };
+  limits_same = place.limits_same;
+  phase = idle v.number ∙ sym (ap (λ es. phase_of (reverse es)) (one-seen v (made (Taking Start) x) place.rests));
+  left = rest-taken x v place.rests place.unheard;
+}
+
+pub took-fetches : (program : Program) (limits : Limits) (phases : List Phase) (v m : Vp) (words now : List ℕ) → Takes limits v m words now → IsInPlace limits v.number v → FitsOne program v → v.ended ≡ None → v.started ≡ false → AllIdle phases → MayFetch program limits phases m
+took-fetches program limits phases v m words now takes place fits going waits idle =
+    subst (MayFetch program limits phases) (sym takes.sees) (taken-fetches program limits phases (start_word limits v words) v place fits going waits idle)
+
+-- where no processor is in an access, all busy words are 0
+pub all-unbusy : (limits : Limits) (f : Fabric) → Agrees limits f → AllIdle f.phases → NoneBusy limits f.words
+all-unbusy limits f agrees idle = λ q low. agrees q low (idle q)
+
 -- there is room for the entries of a fetch
 pub fetch-room : (before : PartView) (v : Vp) → HasRoomForOne before → length before.journal.entries + length (block before.state (fetch_of v)) ≤ before.journal.room
 fetch-room before v room = let few = few-entries before.state (fetch_of v) tt in omega arith
 
 -- a processor that took a start, m, and then asked, n, has its reply
 module _ (program : Program) (limits : Limits) (v : Vp) (before : PartView) (words : List ℕ) (waits : v.started ≡ false) (same : v.limits ≡ limits) (rests : IsAtRest v) (unheard : v.heard ≡ None) where
-  module _ (m n u : Vp) (now last : List ℕ) (got : Reply) (turn : CpuTurn) (part : PartView) (takes : Takes limits v m words now) (asks : n ≡ asking None m) (replies : got ≡ answer before.state (fetch_of v)) (serves : part ≡ with_served before ((fetch_of v, block before.state (fetch_of v)) ∷ [])) (accepts : AcceptsBy (start_rest n) got n u turn) (adds : last ≡ words_by_entries limits now (block before.state (fetch_of v))) where
+  module _ (m n u : Vp) (now last : List ℕ) (q : Request) (got : Reply) (turn : CpuTurn) (part : PartView) (takes : Takes limits v m words now) (asks : n ≡ asking None m) (request : q ≡ fetch_of m) (replies : got ≡ answer before.state q) (serves : part ≡ with_served before ((q, block before.state q) ∷ [])) (accepts : AcceptsBy (start_rest n) got n u turn) (adds : last ≡ words_by_entries limits now (block before.state q)) where
     abbrev x : ℕ
     x = start_word limits v words
 
     abbrev did : Did (List ℕ)
     did = does_start program limits v before.state words waits same limits
+
+    same_request : q ≡ fetch_of v
+    same_request = request ∙ ap fetch_of takes.sees
 
     left : start_rest n ≡ fetches (origin_of v)
     left = ap start_rest (asks ∙ ap (asking None) takes.sees) ∙ rest-taken x v rests unheard
@@ -180,28 +222,22 @@ module _ (program : Program) (limits : Limits) (v : Vp) (before : PartView) (wor
     -- so it is as after the whole start
     is_did : u ≡ did.vp
     is_did =
-        began ∙ ap (λ r. settled (Ends (start_outcome (origin_of v) r)) (answered r n)) replies
+        began ∙ ap (λ r. settled (Ends (start_outcome (origin_of v) r)) (answered r n)) (replies ∙ ap (answer before.state) same_request)
         ∙ ap (λ w. settled (Ends (start_outcome (origin_of v) (answer before.state (fetch_of v)))) (answered (answer before.state (fetch_of v)) w)) (asks ∙ ap (asking None) takes.sees)
 
-    made : made_steps program v before.state words ≡ did
-    made = made-starts program limits v before.state words waits same takes.some
+    is_made : made_steps program v before.state words ≡ did
+    is_made = made-starts program limits v before.state words waits same takes.some
 
     pub starts-done : IsDone (made_steps program v before.state words) u last before part
-    starts-done = subst (λ (d : Did (List ℕ)). IsDone d u last before part) (sym made) (record {
+    starts-done = subst (λ (d : Did (List ℕ)). IsDone d u last before part) (sym is_made) (record {
       vp = is_did;
-      words = adds ∙ ap (λ ws. words_by_entries limits ws (block before.state (fetch_of v))) takes.taken;
-      partition = serves;
+      words = adds ∙ ap (λ ws. words_by_entries limits ws (block before.state q)) takes.taken ∙ ap (λ r. words_by_entries limits (words_by limits v.number words (Taking Start)) (block before.state r)) same_request;
+      partition = serves ∙ ap (λ r. with_served before ((r, block before.state r) ∷ [])) same_request;
     })
 
     pub starts-few : AddsFew (length before.state.vps + 11) (made_steps program v before.state words) before part
     starts-few =
         let few = few-entries before.state (fetch_of v) tt in
         let none : length (block before.state (fetch_of v) ++ []) ≡ length (block before.state (fetch_of v)) = ap length (append-nil (block before.state (fetch_of v))) in
-        let state : owed part.state ≡ owed (after before.state (fetch_of v)) = ap (λ (p : PartView). owed p.state) serves in
-        subst (λ (d : Did (List ℕ)). AddsFew (length before.state.vps + 11) d before part) (sym made) (omega arith)
-
-    pub starts-rests : IsAtRest u
-    starts-rests = subst IsAtRest (sym began) refl
-
-    pub starts-unheard : u.heard ≡ None
-    starts-unheard = ap (λ (w : Vp). w.heard) began
+        let state : owed part.state ≡ owed (after before.state (fetch_of v)) = ap (λ (p : PartView). owed p.state) serves ∙ ap (λ r. owed (after before.state r)) same_request in
+        subst (λ (d : Did (List ℕ)). AddsFew (length before.state.vps + 11) d before part) (sym is_made) (omega arith)
