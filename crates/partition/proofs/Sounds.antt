@@ -103,5 +103,5 @@ rest-within vps pages k turns cleared by None None e rest f p = elim f [ ]
 -- the steward stands where the journal does
 pub fits-stand : (s : PartitionState) (j : JournalView) (u : Under) (stand : Stand) (v : PartView) → s ≡ v.state → j ≡ v.journal → IsPaced v stand → IsSound s j (Some u) → UnderFits s.rounds stand u
 fits-stand s j u stand v a b h f =
-    let p : IsPaced (record { state = s; journal = j; under = v.under }) stand = rw (a, b) h in
+    let p : IsPaced (record { state = s; journal = j; under = v.under; ended = v.ended }) stand = rw (a, b) h in
     rw (p.vps, p.pages ∙ f.pages, p.turns, p.cleared) f.fits
