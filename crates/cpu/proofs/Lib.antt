@@ -10,14 +10,17 @@ pub mod Polls
 pub mod ContextGiven
 pub mod Judged
 pub mod Looked
+pub mod NoStarts
 pub mod Marking
 pub mod InputWords
 pub mod Intercepted
 pub mod PageSlices
 pub mod Replies
+pub mod Sendings
 pub mod Rests
 pub mod Steps
 pub mod Turning
 pub mod Switches
+pub mod Waking
 pub mod SliceEnds
 pub mod SliceRests

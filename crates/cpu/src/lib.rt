@@ -10,6 +10,7 @@ mod given;
 mod hypercalls;
 mod input;
 mod intercepts;
+mod interrupt;
 mod interrupts;
 mod judging;
 mod log;
@@ -22,8 +23,10 @@ mod putting;
 mod reading;
 mod registers;
 mod replying;
+mod sending;
 mod slices;
 mod stage;
+mod starts;
 mod stepping;
 mod taking;
 mod task;
@@ -39,6 +42,8 @@ mod fed;
 #[cfg(test)]
 mod hypercall_tests;
 #[cfg(test)]
+mod interrupt_tests;
+#[cfg(test)]
 mod left;
 #[cfg(test)]
 mod message_tests;
@@ -46,6 +51,8 @@ mod message_tests;
 mod poll_tests;
 #[cfg(test)]
 mod runs;
+#[cfg(test)]
+mod start_tests;
 #[cfg(test)]
 mod switch_tests;
 #[cfg(test)]

@@ -6,6 +6,7 @@ use Rattle.cpu.proofs.processor.Cpu.new.Goals as goal
 pub invariant_of-result : goal.invariant_of-result
 invariant_of-result c = record {
   vp = c.requires.vp;
+  vps = c.requires.vps_few;
   budget = c.requires.budget_few;
   marks_room = search rules;
   seen_room = search rules;
@@ -23,6 +24,16 @@ invariant_of-result c = record {
   spins = λ e. spins-open;
   owing = λ e. cc;
   waits = λ e. refl;
-  fresh = λ e. refl;
-  means = (rw c.in_ok-seen.ensures refl, refl, refl);
+  waiting = λ e. record {
+    op = refl;
+    marks = rw c.in_ok-marks.ensures refl;
+    part = refl;
+    first = refl;
+    again = refl;
+    heard = refl;
+    ended = rw e at c.opening_ending-ended.ensures;
+    few = rw c.in_ok-seen.ensures (omega arith);
+    phase = rw c.in_ok-seen.ensures refl;
+  };
+  means = λ e. (rw c.in_ok-seen.ensures refl, refl, refl);
 }
