@@ -11,6 +11,7 @@ pub mod ContextGiven
 pub mod Judged
 pub mod Lending
 pub mod Looked
+pub mod NoStarts
 pub mod Marking
 pub mod InputWords
 pub mod Intercepted
@@ -21,5 +22,6 @@ pub mod Rests
 pub mod Steps
 pub mod Turning
 pub mod Switches
+pub mod Waking
 pub mod SliceEnds
 pub mod SliceRests

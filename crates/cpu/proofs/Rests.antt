@@ -65,6 +65,7 @@ use Rattle.vsm_core.specs.declared.mark.Ending.{Ending}
 use Rattle.cpu.specs.declared.cpu_turn.CpuTurn.TheVariants.{Moved}
 use Rattle.cpu.specs.Turns.{OwesBy, answer_at, after_mark}
 use Rattle.cpu.specs.Stages.{StageIs, StageRest, is_going}
+use Rattle.cpu.proofs.NoStarts.{IsNoStart, result-no-start}
 use Rattle.cpu.proofs.Polls.{next-taken}
 
 -- a step is next
@@ -362,9 +363,10 @@ result-stays from op (decisions.Part next) grant e = λ h. cc
 result-stays from op (decisions.Set target frame words) grant e = slice-stays from _ _ (end_of frame (setting_refusals from.state.active target frame words)) grant
 result-stays from op (decisions.Eom slot) grant e = eom-outcome-stays from slot grant
 
-came-marked : (what : What) (v : Vp) (o : Outcome) → ((grant : Grant) → what ≢ Again grant) → came_to what v o ≡ marked v o
-came-marked (Again grant) v o h = absurd (h grant refl)
-came-marked _ v o h = refl
+came-marked : (what : What) (v : Vp) (o : Outcome) → IsNoStart what → ((grant : Grant) → what ≢ Again grant) → came_to what v o ≡ marked v o
+came-marked (Again grant) v o other h = absurd (h grant refl)
+came-marked whats.Started v o other h = absurd other
+came-marked _ v o other h = refl
 
 pub settled-again : (v : Vp) (tree : Tree Outcome) (from : Origin) (op : Op) (decided : Decided) (grant : Grant) → EndsAs tree (result_of from op decided) → again_of op decided ≡ Some grant → came_to (Again grant) v (outcome_at from (Again grant) from.state []) ≡ settled tree v
 settled-again v tree from op decided grant ends some =
@@ -373,7 +375,7 @@ settled-again v tree from op decided grant ends some =
 
 pub settled-marked : (v : Vp) (tree : Tree Outcome) (from : Origin) (op : Op) (decided : Decided) → EndsAs tree (result_of from op decided) → again_of op decided ≡ None → marked v (result_of from op decided) ≡ settled tree v
 settled-marked v tree from op decided ends none =
-    rw ends.1 (sym (came-marked (result_of from op decided).what v (with_does ends.0 (result_of from op decided)) (λ grant. result-stays from op decided grant none)))
+    rw ends.1 (sym (came-marked (result_of from op decided).what v (with_does ends.0 (result_of from op decided)) (result-no-start from op decided) (λ grant. result-stays from op decided grant none)))
 
 -- a stage from which no step is made
 pub going-ends : (from : Origin) (op : Op) (stage : Stage) (tree : Tree Outcome) → is_going stage ≡ false → ((asked : Asked) → stage ≢ Want asked) → StageRest from op stage tree → (o : Outcome) × (tree ≡ Ends o)

@@ -1,14 +1,19 @@
 -- What contracts see of a processor, and what is always so.
-use Rattle.std.specs.Prelude.{◌≡◌, ℕ, ◌+◌, ◌*◌, ◌<◌, ◌≤◌, true, false, None, length}
+use Rattle.std.specs.Prelude.{◌≡◌, ℕ, ◌+◌, ◌*◌, ◌<◌, ◌≤◌, Bool, true, false, List, Option, Some, None, length}
 use Rattle.vsm_base.specs.declared.places.Vtl.{Vtl}
 use Rattle.vsm_base.specs.declared.places.Vtl.TheVariants.{Zero, One}
+use Rattle.vsm_core.specs.declared.event.Event.{Event}
+use Rattle.vsm_core.specs.declared.request.Heard.{Heard}
+use Rattle.vsm_core.specs.Outcomes.{Origin}
 use Rattle.vsm_core.specs.Processor.{Vp, spin_limit}
 use Rattle.vsm_core.specs.State.{rip_of}
 use Rattle.vtl_state.specs.States.{state_of}
 use Rattle.cpu.specs.declared.processor.Cpu.TheInside.{Inside}
 use Rattle.cpu.specs.Held.{held_of, origin_at}
 use Rattle.cpu.specs.Logs.{standing_of}
+use Rattle.cpu.specs.declared.stage.Under.{Under}
 use Rattle.cpu.specs.Stages.{Means, op_of, IsWanting}
+use Rattle.cpu.specs.Turns.{IsWaiting}
 
 abbrev pub view_of : Inside → Vp
 view_of c = record {
@@ -36,12 +41,18 @@ abbrev pub length_at : ℕ → ℕ → Vtl → ℕ
 length_at zero_length one_length Zero = zero_length
 length_at zero_length one_length One = one_length
 
+-- once it has started, what is under way is where the events so far, and the reply, have led
+abbrev pub MeansOnce : Bool → Origin → Option Under → Option Heard → List Event → ℕ → ℕ → Type 0
+MeansOnce started from None heard seen part first = started ≡ true → Means from None heard seen part first
+MeansOnce started from (Some u) heard seen part first = Means from (Some u) heard seen part first
+
 -- a processor that waits for the reply to its request
 pub record IsOwing (c : Inside) : Type 0 where
   pub going : c.log.ended ≡ None
   pub stood : c.log.again ≡ false
   pub unheard : c.heard ≡ None
-  pub wants : IsWanting c.under
+  pub wants : c.started ≡ true → IsWanting c.under
+  pub looked : c.started ≡ false → length c.log.seen.0 ≡ 1
 
 -- there is room for what the budget still allows, and the stage is where the events so far have led
 pub record IsSound (c : Inside) : Type 0 where
@@ -62,5 +73,5 @@ pub record IsSound (c : Inside) : Type 0 where
   pub spins : c.log.ended ≡ None → c.log.spins < spin_limit
   pub owing : c.owes ≡ true → IsOwing c
   pub waits : c.started ≡ false → c.under ≡ None
-  pub fresh : c.started ≡ false → c.log.again ≡ false
-  pub means : Means (origin_at c.limits c.vp.0 c.bank c.levels c.controllers) c.under c.heard c.log.seen.0 c.log.part c.log.first
+  pub waiting : c.started ≡ false → IsWaiting (view_of c)
+  pub means : MeansOnce c.started (origin_at c.limits c.vp.0 c.bank c.levels c.controllers) c.under c.heard c.log.seen.0 c.log.part c.log.first

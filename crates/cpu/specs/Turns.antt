@@ -1,21 +1,20 @@
 -- What one turn of a processor is.
-use Rattle.std.specs.Prelude.{◌≡◌, ℕ, ◌==◌, Bool, true, false, if◌then◌else◌, Option, Some, None, IfSome, List, drop, length, reverse}
+use Rattle.std.specs.Prelude.{◌≡◌, ◌≤◌, ℕ, ◌==◌, Bool, true, false, Option, Some, None, IfSome, List, [], drop, length, reverse}
 use Rattle.vsm_core.specs.declared.event.Event.{Event}
 use Rattle.vsm_core.specs.declared.event.Phase.{Phase}
-use Rattle.vsm_core.specs.declared.event.PendingWord.TheVariants.{Start}
+use Rattle.vsm_core.specs.declared.event.Phase.TheVariants as phases
 use Rattle.vsm_core.specs.declared.mark.Ending.{Ending}
-use Rattle.vsm_core.specs.declared.mark.GuestFault.TheVariants.{Undefined}
 use Rattle.vsm_core.specs.declared.mark.What.{What}
 use Rattle.vsm_core.specs.declared.mark.What.TheVariants as whats
 use Rattle.vsm_core.specs.declared.operation.Op.{Op}
 use Rattle.vsm_core.specs.declared.operation.Program.{Program}
-use Rattle.vsm_core.specs.Outcomes.{Outcome, faulted}
+use Rattle.vsm_core.specs.Outcomes.{Outcome}
 use Rattle.vsm_core.specs.declared.request.Reply.{Reply}
-use Rattle.vsm_core.specs.Processor.{Vp, operation_at, origin_of, saw, settled, asking, answered}
+use Rattle.vsm_core.specs.Processor.{Vp, operation_at, saw, settled, asking, answered, start_rest}
 use Rattle.vsm_core.specs.Protection.{IsSlice}
 use Rattle.vsm_core.specs.Seat.{Seat, Makes}
 use Rattle.vsm_core.specs.Steps.{made, phase_of}
-use Rattle.vsm_core.specs.Tree.{Tree, Ends, Asks, Wants, Taking}
+use Rattle.vsm_core.specs.Tree.{Tree, Ends, Asks, Wants}
 use Rattle.cpu.specs.declared.cpu_turn.CpuTurn.{CpuTurn}
 use Rattle.cpu.specs.declared.cpu_turn.CpuTurn.TheVariants.{Moved, Idle, Attempt, Again, Ended}
 use Rattle.cpu.specs.declared.cpu_turn.CpuTurn.TheVariants as turns
@@ -66,17 +65,31 @@ abbrev pub HandsSlice : CpuTurn → Type 0
 HandsSlice (turns.Wants q) = IsSlice q.call
 HandsSlice _ = Unit {0}
 
--- a processor that hasn't started, after it took this from its start word: nothing changes where it was 0, and a start
--- can't be served yet, so that the processor ends as at an undefined operation
-abbrev pub woken : ℕ → Vp → Vp
-woken x v = if x == 0 then v else settled (Ends (faulted (origin_of v) Undefined)) (saw None v (made (Taking Start) x))
+-- what a look at the start word comes to: where it was 0 nothing changes, and else the start goes on
+abbrev pub LooksTo : Bool → Tree Outcome → Event → Vp → Vp → CpuTurn → Type 0
+LooksTo true rest e old new turn = (new ≡ old) × (turn ≡ Idle)
+LooksTo false rest e old new turn = (new ≡ settled rest (saw None old e)) × (turn ≡ answer_at rest new.ended)
 
-abbrev pub answer_woken : ℕ → Option Ending → CpuTurn
-answer_woken x ended = if x == 0 then Idle else after_mark (whats.Fault Undefined) ended
+-- a turn where this is left of a start: the look at the start word, or else as a turn of an attempt
+abbrev pub WakesBy : Tree Outcome → Vp → Seat → Vp → Seat → CpuTurn → Type 0
+WakesBy (Asks s k) old before new after turn = (x : ℕ) × Makes before s x after × LooksTo (x == 0) (k x) (made s x) old new turn
+WakesBy rest old before new after turn = TurnsBy rest None old before new after turn
 
 -- a turn of a processor that hasn't started
 abbrev pub Wakes : Vp → Seat → Vp → Seat → CpuTurn → Type 0
-Wakes old before new after turn = (x : ℕ) × Makes before (Taking Start) x after × (new ≡ woken x old) × (turn ≡ answer_woken x new.ended)
+Wakes old before new after turn = WakesBy (start_rest old) old before new after turn
+
+-- a processor that hasn't started has left no mark, and has seen no event but that of its start word
+pub record IsWaiting (v : Vp) : Type 0 where
+  pub op : v.op ≡ None
+  pub marks : v.marks ≡ []
+  pub part : v.part ≡ 0
+  pub first : v.first ≡ 0
+  pub again : v.again ≡ false
+  pub heard : v.heard ≡ None
+  pub ended : v.ended ≡ None
+  pub few : length v.seen ≤ 1
+  pub phase : phase_at v.seen v.first ≡ phases.Idle
 
 -- an operation that is kept is the one that was, and the state is as it was
 abbrev pub Keeps : Vp → Vp → Type 0

@@ -174,7 +174,7 @@ pub fn own_context(reply: &Reply) -> Option<(Vtl, [u64; 28])>
 }
 
 /// A level gets its context, unless it is enabled already or the context has a bit that must be zero.
-fn give_context(bank: &mut Bank, levels: &mut Levels, level: Vtl, words: &[u64; 28])
+pub fn give_context(bank: &mut Bank, levels: &mut Levels, level: Vtl, words: &[u64; 28])
     ensures { state_of bank.new levels.new ≡ with_context (state_of bank.old levels.old) (Some (level, words.now)) }
 {
     if let Ok(context) = Context::read(words) {

@@ -26,6 +26,7 @@ mod replying;
 mod sending;
 mod slices;
 mod stage;
+mod starts;
 mod stepping;
 mod taking;
 mod task;
@@ -50,6 +51,8 @@ mod message_tests;
 mod poll_tests;
 #[cfg(test)]
 mod runs;
+#[cfg(test)]
+mod start_tests;
 #[cfg(test)]
 mod switch_tests;
 #[cfg(test)]

@@ -1,14 +1,14 @@
 // A processor, its attempts and its turns.
 ghost use Rattle.std.specs.Prelude.{◌≡◌, ◌≢◌, [], ◌+◌, ◌-◌, ◌<◌, ◌≤◌, true, false, None, Some, IfSome, IfNone, IfOk, length, drop};
 ghost use Rattle.std.specs.List.{All};
-ghost use Rattle.vsm_core.specs.Processor.{opening, standing, operation_at, operations_of, length_of, rest_of, settled, marked, came_to, new_marks, origin_of, answered, IsShort, IsSameProcessor};
+ghost use Rattle.vsm_core.specs.Processor.{opening, standing, operation_at, operations_of, length_of, rest_of, start_rest, settled, marked, came_to, new_marks, origin_of, answered, IsShort, IsSameProcessor};
 ghost use Rattle.vsm_core.specs.Attempt.{attempt, most_steps_of};
 ghost use Rattle.vsm_core.specs.Outcomes.{Outcome, outcome_at};
 ghost use Rattle.vsm_core.specs.Tree.{Ends, by_reply};
 ghost use Rattle.cpu.specs.Sound.{length_at};
 ghost use Rattle.vtl_state.specs.States.{state_of};
 ghost use Rattle.cpu.specs.Results.{result_of};
-ghost use Rattle.cpu.specs.Turns.{HandsSlice, Keeps, VpServes, TurnsBy, AcceptsBy, OwesBy, Wakes, answer_at, after_mark, phase_at};
+ghost use Rattle.cpu.specs.Turns.{HandsSlice, IsWaiting, Keeps, VpServes, TurnsBy, AcceptsBy, OwesBy, Wakes, answer_at, after_mark, phase_at};
 
 use crate::beginning::{begin, begun};
 use crate::controllers::Controllers;
@@ -21,6 +21,7 @@ use crate::log::Log;
 use crate::operations::{again, finish};
 use crate::replying::replied_stage;
 use crate::stage::{Stage, Under, is_going};
+use crate::starts::{begin_with, fetch};
 use crate::stepping::step;
 use fabric::Port;
 use register_file::Bank;
@@ -29,9 +30,7 @@ use std::alloc::Global;
 use std::marker::Model;
 use synic::Synic;
 use vsm_base::{Items, Limits, Memory, Name, Reserved, VpIndex, Vtl};
-use vsm_core::{
-    Ending, Event, Grant, GuestFault, Heard, Mark, Op, PendingWord, Phase, Program, Reply, What,
-};
+use vsm_core::{Ending, Event, Grant, Heard, Mark, Op, PendingWord, Phase, Program, Reply, What};
 use vtl_state::{Levels, word_of};
 
 /// A virtual processor: its registers, what its interrupt controllers hold, the operation that it is at, its marks and its
@@ -140,6 +139,7 @@ impl Cpu {
 
     /// Leaves the mark that stays, where an attempt has ended.
     fn mark(&mut self, op: Op, decided: Decided) -> CpuTurn
+        requires started { self.old.started ≡ true }
         requires going { self.old.ended ≡ None }
         requires answered { self.old.owes ≡ false }
         requires fresh { self.old.again ≡ false }
@@ -187,6 +187,7 @@ impl Cpu {
     /// Leaves the mark of a spin that found another value and begins anew, or ends.
     #[tactic(auto, unfolding(vsm_core::specs::Processor::spin_limit))]
     fn mark_again(&mut self, op: Op, grant: Grant) -> CpuTurn
+        requires started { self.old.started ≡ true }
         requires going { self.old.ended ≡ None }
         requires answered { self.old.owes ≡ false }
         requires fresh { self.old.again ≡ false }
@@ -236,6 +237,7 @@ impl Cpu {
 
     /// Leaves the mark, if the attempt has come to its end.
     fn settle(&mut self) -> CpuTurn
+        requires started { self.old.started ≡ true }
         requires going { self.old.ended ≡ None }
         requires answered { self.old.owes ≡ false }
         requires fresh { self.old.again ≡ false }
@@ -316,10 +318,10 @@ impl Cpu {
         self.settle()
     }
 
-    /// Takes from the start word of a processor that hasn't started. Where it was 0 nothing changes.
+    /// Takes from the start word of a processor that hasn't started, or asks for its contexts where it has taken a start.
+    /// Where the word was 0 nothing changes.
     fn wake<P: Port>(&mut self, port: &mut P) -> CpuTurn
         requires waits { self.old.started ≡ false }
-        requires going { self.old.ended ≡ None }
         requires answered { self.old.owes ≡ false }
         requires serves { VpServes self.old (P.seat port.old) }
         ensures woken { Wakes self.old (P.seat port.old) self.new (P.seat port.new) result }
@@ -332,22 +334,21 @@ impl Cpu {
         ensures slices { HandsSlice result }
         ensures within { length self.new.marks ≤ self.old.limits.budget }
     {
-        let level = self.levels.active();
-        let rip = word_of(&self.bank, &self.levels, Name::Rip);
+        if self.log.first < self.log.seen.as_slice().len() {
+            self.owes = true;
+            return CpuTurn::Wants(fetch(self.vp, &self.levels));
+        }
         let bits = port.take(PendingWord::Start);
         if bits == 0 {
             return CpuTurn::Idle;
         }
-        let fault = GuestFault::Undefined;
         self.log.see(Event::Take {
             word: PendingWord::Start,
             bits,
         });
-        self.log
-            .mark(level, rip, What::Fault(fault), Some(Ending::Fault(fault)));
-        self.under = None;
-        CpuTurn::Ended(Ending::Fault(fault))
+        CpuTurn::Moved
     }
+
     /// Makes at most one step at the processor's port. It takes no memory.
     ///
     /// A processor that has started makes the next step of its attempt, which is of the operation where the active
@@ -367,8 +368,9 @@ impl Cpu {
     /// next attempt. Such a mark doesn't count for the budget. The 20,000,000th read of spins in vain ends the
     /// processor, and neither mark nor events of it stay.
     ///
-    /// A processor that hasn't started takes from its start word. Where that was 0 nothing of the processor changes,
-    /// and the event isn't kept. Starts can't be served yet: at anything else it ends as at an undefined operation.
+    /// A processor that hasn't started takes from its start word. Where that was 0 nothing of the processor changes, and
+    /// the event isn't kept. Else the next turn makes no step and asks the partition for its contexts, and the reply starts
+    /// it (TLFS, HvCallStartVirtualProcessor; the start word and the request are this project's own).
     ///
     /// A hypercall is undefined above privilege level 0. What refuses its input value or the place of its input (see
     /// `hyper_abi::admit`) refuses it at once, and then RAX has the result and all other registers but Rip stay. Else the
@@ -409,20 +411,16 @@ impl Cpu {
         }
     }
 
-    /// Takes the reply to the request that the last turn answered. The attempt goes on by it, or comes to its end: RAX has
-    /// the result, and where the reply brings a context, level 1 is enabled with it (TLFS, HvCallEnableVpVtl). All other
-    /// registers but Rip stay. Where a slice of pages was served and elements of its call are left, RCX tells which is next
-    /// instead, and RAX and Rip stay (TLFS, Rep Hypercalls). It makes no step and takes no memory.
-    ///
-    /// It needs a processor that waits for a reply, and fewer than 4096 elements done.
-    pub fn accept(&mut self, reply: Reply) -> CpuTurn
+    /// Goes on with an attempt by the reply to its request.
+    fn resume(&mut self, reply: Reply) -> CpuTurn
+        requires started { self.old.started ≡ true }
         requires owes { self.old.owes ≡ true }
         requires done { reply.done < 4096 }
         ensures accepted { AcceptsBy (rest_of self.old self.old.op) reply self.old self.new result }
         ensures left { rest_of (answered reply self.old) self.old.op ≡ by_reply (rest_of self.old self.old.op) reply }
         ensures unheard { self.old.heard ≡ None }
         ensures phase { phase_at self.new.seen self.new.first ≡ phase_at self.old.seen self.old.first }
-        ensures short { All IsShort (new_marks self.old self.new) }
+        ensures short { All IsShort (drop (length self.old.marks) self.new.marks) }
         ensures same { IsSameProcessor self.old self.new }
         ensures owes { self.new.owes ≡ false }
         ensures kept { Keeps self.old self.new }
@@ -440,13 +438,83 @@ impl Cpu {
         self.settle()
     }
 
-    /// The processor's number. The attempt under way has at most 38 events.
+    /// Starts with the contexts of the reply, and leaves the mark of the start.
+    fn start(&mut self, reply: &Reply) -> CpuTurn
+        requires waits { self.old.started ≡ false }
+        requires owes { self.old.owes ≡ true }
+        ensures begun { AcceptsBy (start_rest self.old) reply.now self.old self.new result }
+        ensures unheard { self.old.heard ≡ None }
+        ensures phase { phase_at self.new.seen self.new.first ≡ phase_at self.old.seen self.old.first }
+        ensures short { All IsShort (drop (length self.old.marks) self.new.marks) }
+        ensures same { IsSameProcessor self.old self.new }
+        ensures owes { self.new.owes ≡ false }
+        ensures kept { Keeps self.old self.new }
+        ensures within { length self.new.marks ≤ self.old.limits.budget }
+    {
+        begin_with(&mut self.bank, &mut self.levels, &reply.context);
+        let level = self.levels.active();
+        let rip = word_of(&self.bank, &self.levels, Name::Rip);
+        let what = What::Started;
+        let length = length_of(self.zero_length, self.one_length, &self.levels);
+        let marks = self.log.marks.as_slice().len() + 1;
+        let ended = ending(
+            length,
+            self.limits.budget,
+            &what,
+            rip,
+            marks,
+            self.log.spins,
+        );
+        let turn = after_mark(&what, ended);
+        self.started = true;
+        self.owes = false;
+        self.log.mark(level, rip, what, ended);
+        turn
+    }
+
+    /// Takes the reply to the request that the last turn answered. The attempt goes on by it, or comes to its end: RAX has
+    /// the result, and where the reply brings a context, level 1 is enabled with it (TLFS, HvCallEnableVpVtl). All other
+    /// registers but Rip stay. Where a slice of pages was served and elements of its call are left, RCX tells which is next
+    /// instead, and RAX and Rip stay (TLFS, Rep Hypercalls). It makes no step and takes no memory.
+    ///
+    /// A processor that hasn't started starts: the reply's first context goes to the level of the start, and the one that
+    /// has waited to level 1, unless that is the level of the start. The level of the start becomes active (TLFS,
+    /// HvCallStartVirtualProcessor). A context that has a bit set that must be zero is left aside; without a context all
+    /// registers stay. The start leaves one mark, whose Rip is the context's, and it counts for the budget. This is this
+    /// project's own.
+    ///
+    /// It needs a processor that waits for a reply, and fewer than 4096 elements done.
+    pub fn accept(&mut self, reply: Reply) -> CpuTurn
+        requires owes { self.old.owes ≡ true }
+        requires done { reply.done < 4096 }
+        ensures accepted { self.old.started ≡ true → AcceptsBy (rest_of self.old self.old.op) reply self.old self.new result }
+        ensures begun { self.old.started ≡ false → AcceptsBy (start_rest self.old) reply self.old self.new result }
+        ensures left { self.old.started ≡ true → rest_of (answered reply self.old) self.old.op ≡ by_reply (rest_of self.old self.old.op) reply }
+        ensures unheard { self.old.heard ≡ None }
+        ensures phase { phase_at self.new.seen self.new.first ≡ phase_at self.old.seen self.old.first }
+        ensures short { All IsShort (drop (length self.old.marks) self.new.marks) }
+        ensures same { IsSameProcessor self.old self.new }
+        ensures owes { self.new.owes ≡ false }
+        ensures kept { Keeps self.old self.new }
+        ensures within { length self.new.marks ≤ self.old.limits.budget }
+    {
+        if self.started {
+            self.resume(reply)
+        } else {
+            self.start(&reply)
+        }
+    }
+
+    /// The processor's number. The attempt under way has at most 38 events; before the start no attempt is under way and no
+    /// mark was left.
     pub fn vp(&self) -> VpIndex
         ensures number { result.0 ≡ self.now.number }
         ensures below { self.now.number < self.now.limits.vps }
         ensures part { self.now.part ≤ self.now.first }
         ensures first { self.now.first ≤ length self.now.seen }
         ensures few { length self.now.seen ≤ self.now.first + 38 }
+        ensures waiting { self.now.started ≡ false → IsWaiting self.now }
+        ensures looked { self.now.started ≡ false → self.now.owes ≡ true → length self.now.seen ≡ 1 }
     {
         self.vp
     }

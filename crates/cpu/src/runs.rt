@@ -1,5 +1,5 @@
 // Runs of a processor from an opening over a port, and what each must leave.
-ghost use Rattle.std.specs.Prelude.{◌≡◌, ◌<◌, get_or, IfOk, IfSome, None, false};
+ghost use Rattle.std.specs.Prelude.{◌≡◌, ◌<◌, ◌≤◌, get_or, IfOk, IfSome, None, false};
 ghost use Rattle.cpu.specs.Turns.{VpServes, Fits, phase_at};
 
 use super::*;
@@ -25,11 +25,14 @@ pub type Put = (Vtl, Name, u128);
 /// Level 1's assist page is page 1, and is on.
 pub const PAGE_1: Put = (Vtl::One, Name::VpAssistPage, 0x1001);
 
+/// The level of a start, the words of its context, and those of level 1's context that has waited.
+pub type Fetched = Option<(Vtl, [u64; 28], Option<[u64; 28]>)>;
+
 /// How a processor begins.
 #[derive(Clone, Copy)]
 pub enum Opening<'a> {
-    /// It waits for its start.
-    Waiting,
+    /// It waits for its start, at which it fetches these.
+    Waiting(Fetched),
     /// It has started, and level 1 isn't enabled.
     Alone,
     /// The same, two reads short of the last that its spins may make in vain.
@@ -66,6 +69,26 @@ pub fn leaves(alloc: Global, run: &Run, left: &[Left]) -> Result<(), Fail> {
     let program = programs(alloc, run.zero, run.one)?;
     let cpu = opened(alloc, &program, &run.opening)?;
     over_port(alloc, cpu, &program, run, left)
+}
+
+/// Makes a run of a processor that waits for its start under this budget, over a port that answers so, and fails unless it
+/// leaves all that.
+pub fn starts_under(
+    alloc: Global,
+    budget: u32,
+    run: &Run,
+    answers: &[u64],
+    left: &[Left],
+) -> Result<(), Fail>
+    requires some { 1 ≤ budget }
+    requires few { budget ≤ 10000 }
+{
+    let program = programs(alloc, run.zero, run.one)?;
+    let limits = Limits { budget, ..LIMITS };
+    let mut cpu = Cpu::new(alloc, VpIndex(0), &limits, false, &program)?;
+    let mut port = new_fed(alloc, limits, answers)?;
+    let last = made(&mut cpu, &mut port, &program, run);
+    judged(cpu, &[], last, left)
 }
 
 /// A mark of an attempt of level 0 or 1 that stood there, whose events are the first.
@@ -149,7 +172,7 @@ fn opened(alloc: Global, program: &Program, opening: &Opening) -> Result<Cpu, Fa
     ensures answered { IfOk result (λ cpu. cpu.owes ≡ false) }
 {
     match opening {
-        Opening::Waiting => processor(alloc, false, program),
+        Opening::Waiting(_) => processor(alloc, false, program),
         Opening::Alone => processor(alloc, true, program),
         Opening::NearlySpun => Ok(processor(alloc, true, program)?.after_spins(19_999_998)),
         Opening::Both(level, first, then) => with_both(alloc, program, *level, first, then),
@@ -222,8 +245,8 @@ fn modified(start: u16, pages: &[u64]) -> Reply
     reply_of(HvStatus::SUCCESS, done, 0)
 }
 
-/// What a partition of these tests replies, by the words of the request alone.
-fn reply_to(request: &Request) -> Reply
+/// What a partition of these tests replies, by the words of the request alone, where a start fetches these.
+fn reply_to(request: &Request, fetched: &Fetched) -> Reply
     ensures { result.done < 4096 }
 {
     match &request.call {
@@ -238,6 +261,12 @@ fn reply_to(request: &Request) -> Reply
         PartCall::Flush { total } => reply_of(HvStatus::SUCCESS, *total, 0),
         PartCall::WriteConfig(value) if *value == CONFIG => reply_of(HvStatus::SUCCESS, 1, 0),
         PartCall::ReadConfig => reply_of(HvStatus::SUCCESS, 1, CONFIG as u64),
+        PartCall::Fetch => {
+            Reply {
+                context: *fetched,
+                ..reply_of(status_of(request.by, &[u64::MAX]), 0, 0)
+            }
+        }
         _ => reply_of(HvStatus::INVALID_HYPERCALL_CODE, 0, 0),
     }
 }
@@ -254,7 +283,7 @@ fn answer_of(turn: &CpuTurn) -> Answer {
 }
 
 /// Makes a turn, and takes the reply where the turn asks for something.
-fn whole_turn<P: Port>(cpu: &mut Cpu, port: &mut P, program: &Program) -> Answer
+fn whole_turn<P: Port>(cpu: &mut Cpu, port: &mut P, program: &Program, fetched: &Fetched) -> Answer
     requires going { cpu.old.ended ≡ None }
     requires fits { Fits program.now cpu.old }
     requires serves { VpServes cpu.old (P.seat port.old) }
@@ -265,7 +294,7 @@ fn whole_turn<P: Port>(cpu: &mut Cpu, port: &mut P, program: &Program) -> Answer
 {
     match cpu.turn(port, program) {
         CpuTurn::Wants(request) => {
-            let turn = cpu.accept(reply_to(&request));
+            let turn = cpu.accept(reply_to(&request, fetched));
             answer_of(&turn)
         }
         turn => answer_of(&turn),
@@ -273,7 +302,7 @@ fn whole_turn<P: Port>(cpu: &mut Cpu, port: &mut P, program: &Program) -> Answer
 }
 
 /// Makes so many turns, while there is no ending.
-fn turns<P: Port>(cpu: &mut Cpu, port: &mut P, program: &Program, count: usize)
+fn turns<P: Port>(cpu: &mut Cpu, port: &mut P, program: &Program, fetched: &Fetched, count: usize)
     requires fits { Fits program.now cpu.old }
     requires serves { VpServes cpu.old (P.seat port.old) }
     requires answered { cpu.old.owes ≡ false }
@@ -283,13 +312,18 @@ fn turns<P: Port>(cpu: &mut Cpu, port: &mut P, program: &Program, count: usize)
 {
     'turns: for _ in 0..count {
         if cpu.ended().is_none() {
-            whole_turn(cpu, port, program);
+            whole_turn(cpu, port, program, fetched);
         }
     }
 }
 
 /// Makes turns until one doesn't answer that the attempt goes on, at most so many as an attempt may have.
-fn attempt<P: Port>(cpu: &mut Cpu, port: &mut P, program: &Program) -> Option<Answer>
+fn attempt<P: Port>(
+    cpu: &mut Cpu,
+    port: &mut P,
+    program: &Program,
+    fetched: &Fetched,
+) -> Option<Answer>
     requires fits { Fits program.now cpu.old }
     requires serves { VpServes cpu.old (P.seat port.old) }
     requires answered { cpu.old.owes ≡ false }
@@ -301,7 +335,7 @@ fn attempt<P: Port>(cpu: &mut Cpu, port: &mut P, program: &Program) -> Option<An
         if cpu.ended().is_some() {
             return None;
         }
-        match whole_turn(cpu, port, program) {
+        match whole_turn(cpu, port, program, fetched) {
             Answer::Moved => {}
             answer => return Some(answer),
         }
@@ -310,7 +344,13 @@ fn attempt<P: Port>(cpu: &mut Cpu, port: &mut P, program: &Program) -> Option<An
 }
 
 /// Makes so many attempts, and says what the last one answered.
-fn attempts<P: Port>(cpu: &mut Cpu, port: &mut P, program: &Program, count: usize) -> Option<Answer>
+fn attempts<P: Port>(
+    cpu: &mut Cpu,
+    port: &mut P,
+    program: &Program,
+    fetched: &Fetched,
+    count: usize,
+) -> Option<Answer>
     requires fits { Fits program.now cpu.old }
     requires serves { VpServes cpu.old (P.seat port.old) }
     requires answered { cpu.old.owes ≡ false }
@@ -320,9 +360,17 @@ fn attempts<P: Port>(cpu: &mut Cpu, port: &mut P, program: &Program, count: usiz
 {
     let mut last = None;
     'attempts: for _ in 0..count {
-        last = attempt(cpu, port, program);
+        last = attempt(cpu, port, program, fetched);
     }
     last
+}
+
+/// What a processor that begins so fetches at its start.
+fn fetched_at(opening: &Opening) -> Fetched {
+    match opening {
+        Opening::Waiting(fetched) => *fetched,
+        _ => None,
+    }
 }
 
 /// Makes the attempts and then the turns of a run, and says what the last attempt answered.
@@ -331,8 +379,9 @@ fn made<P: Port>(cpu: &mut Cpu, port: &mut P, program: &Program, run: &Run) -> O
     requires serves { VpServes cpu.old (P.seat port.old) }
     requires answered { cpu.old.owes ≡ false }
 {
-    let last = attempts(cpu, port, program, run.attempts);
-    turns(cpu, port, program, run.turns);
+    let fetched = fetched_at(&run.opening);
+    let last = attempts(cpu, port, program, &fetched, run.attempts);
+    turns(cpu, port, program, &fetched, run.turns);
     last
 }
 

@@ -98,19 +98,6 @@ fn spins_on(alloc: Global, attempts: usize, left: &[Left]) -> Result<(), Fail> {
     leaves(alloc, &run, left)
 }
 
-/// Makes so many attempts of a processor that waits, whose second look finds a start.
-fn waits(alloc: Global, attempts: usize, left: &[Left]) -> Result<(), Fail> {
-    let run = Run {
-        zero: &[Op::Get(Name::Rax)],
-        one: &[],
-        opening: Opening::Waiting,
-        way: Way::Fed(&[0, 1]),
-        attempts,
-        turns: 0,
-    };
-    leaves(alloc, &run, left)
-}
-
 /// Fails unless eleven attempts at an operation leave so many marks and end so.
 fn comes_to(alloc: Global, op: Op, count: usize, ended: Ending) -> Result<(), Fail> {
     let left = [Left::Count(count), Left::Ended(Some(ended))];
@@ -269,30 +256,4 @@ fn a_walk_has_twelve_steps_or_thirteen(rt: HostRuntime) -> Result<(), Fail> {
         Left::Ended(Some(Ending::Held)),
     ];
     answered(rt.alloc(), &ops, &answers, 3, &left)
-}
-
-#[test]
-fn a_processor_waits_for_its_start(rt: HostRuntime) -> Result<(), Fail> {
-    let idle = [Left::Last(Answer::Idle), Left::Seen(&[])];
-    let ended = [
-        Left::Last(Answer::Ended(UNDEFINED)),
-        Left::Count(1),
-        Left::Steps(1),
-    ];
-    waits(rt.alloc(), 1, &idle)?;
-    waits(rt.alloc(), 2, &ended)
-}
-
-#[test]
-fn a_posted_start_is_taken(rt: HostRuntime) -> Result<(), Fail> {
-    let run = Run {
-        zero: &[Op::Get(Name::Rax)],
-        one: &[],
-        opening: Opening::Waiting,
-        way: Way::Started,
-        attempts: 1,
-        turns: 0,
-    };
-    let left = [Left::Last(Answer::Ended(UNDEFINED)), Left::Start(0)];
-    leaves(rt.alloc(), &run, &left)
 }

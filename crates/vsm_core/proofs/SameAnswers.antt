@@ -11,6 +11,7 @@ use Rattle.vsm_core.specs.declared.event.Event.{Event}
 use Rattle.vsm_core.specs.declared.event.PendingWord.{PendingWord}
 use Rattle.vsm_core.specs.declared.event.PendingWord.TheVariants.{Start, Vectors}
 use Rattle.vsm_core.specs.Tree.{Tree, Ends, Asks, Wants, WordStep, Entering, Checking, Masking, Reading, Writing, Leaving, Posting, Taking}
+use Rattle.vsm_core.specs.declared.journal.Entry.{Entry}
 use Rattle.vsm_core.specs.declared.operation.Op.{Op}
 use Rattle.vsm_core.specs.declared.operation.Program.{Program}
 use Rattle.vsm_core.specs.declared.partition_state.PartitionState.{PartitionState}
@@ -178,23 +179,24 @@ did-in-step limits p op s v (Wants q k) flat step =
     did-in-step limits p op (after s q) (answered reply (asking op v)) (k reply) (with_entries flat (block s q)) (entries-in-step limits s q flat step)
 
 -- what holds of both holds by either test
-did-cond : (P : Did Flat → Type 0) (b : Bool) (x y : Did Flat) → P x → P y → P (cond b x y)
+did-cond : {W : Type 0} (P : Did W → Type 0) (b : Bool) (x y : Did W) → P x → P y → P (cond b x y)
 did-cond P true x y h g = h
 did-cond P false x y h g = g
 
-acts-cond : (P : Did Flat → Type 0) (program : Program) (v : Vp) (s : PartitionState) (flat : Flat) → P (record { vp = v; words = flat; served = [] })
-    → ((op : Option Op) (t : Tree Outcome) → P (does_all (answer_in v.limits v.number) (flat_after v.limits v.number) with_entries s op v flat t)) → P (acts (answer_in v.limits v.number) (flat_after v.limits v.number) with_entries program s v flat)
-acts-cond P program v s flat none did =
-    let op = operation_at program v.state in
-    let answers = answer_in v.limits v.number in
-    let changes = flat_after v.limits v.number in
-    did-cond P v.started (does_all answers changes with_entries s op v flat (tree_of (origin_of v) op)) (wakes answers changes with_entries s v flat) (did op (tree_of (origin_of v) op))
-    (did-cond P (answers flat (Taking Start) == 0) (record { vp = v; words = flat; served = [] }) (does_all answers changes with_entries s None v flat (start_tree (origin_of v))) none (did None (start_tree (origin_of v))))
+-- whether a processor has started or not, and whether it is to start: what holds where nothing is done, and of all that a tree does
+module _ {W : Type 0} (answers : W → WordStep → ℕ) (changes : W → WordStep → W) (adds : W → List Entry → W) where
+  pub acts-either : (P : Did W → Type 0) (program : Program) (s : PartitionState) (v : Vp) (words : W) → P (record { vp = v; words = words; served = [] })
+      → ((op : Option Op) (t : Tree Outcome) → P (does_all answers changes adds s op v words t)) → P (acts answers changes adds program s v words)
+  acts-either P program s v words none did =
+      let op = operation_at program v.state in
+      let start = start_tree (origin_of v) in
+      did-cond P v.started (does_all answers changes adds s op v words (tree_of (origin_of v) op)) (wakes answers changes adds s v words) (did op (tree_of (origin_of v) op))
+      (did-cond P (answers words (Taking Start) == 0) (record { vp = v; words = words; served = [] }) (does_all answers changes adds s None v words start) none (did None start))
 
 pub acts-in-step : (program : Program) (v : Vp) (s : PartitionState) (flat : Flat) → IsInStep v.limits s flat
     → let did = acts (answer_in v.limits v.number) (flat_after v.limits v.number) with_entries program s v flat in IsInStep v.limits (state_after s did.served) did.words
 acts-in-step program v s flat step =
-    acts-cond (λ did. IsInStep v.limits (state_after s did.served) did.words) program v s flat step (λ op t. did-in-step v.limits v.number op s v t flat step)
+    acts-either (answer_in v.limits v.number) (flat_after v.limits v.number) with_entries (λ did. IsInStep v.limits (state_after s did.served) did.words) program s v flat step (λ op t. did-in-step v.limits v.number op s v t flat step)
 
 -- and the journal gains the entries of the requests
 pub did-journal : (limits : Limits) (p : ℕ) (op : Option Op) (s : PartitionState) (v : Vp) (t : Tree Outcome) (flat : Flat)
@@ -212,4 +214,4 @@ did-journal limits p op s v (Wants q k) flat =
 pub acts-journal : (program : Program) (v : Vp) (s : PartitionState) (flat : Flat)
     → let did = acts (answer_in v.limits v.number) (flat_after v.limits v.number) with_entries program s v flat in did.words.journal ≡ flat.journal ++ joined did.served
 acts-journal program v s flat =
-    acts-cond (λ did. did.words.journal ≡ flat.journal ++ joined did.served) program v s flat (sym (append-nil flat.journal)) (λ op t. did-journal v.limits v.number op s v t flat)
+    acts-either (answer_in v.limits v.number) (flat_after v.limits v.number) with_entries (λ did. did.words.journal ≡ flat.journal ++ joined did.served) program s v flat (sym (append-nil flat.journal)) (λ op t. did-journal v.limits v.number op s v t flat)

@@ -13,6 +13,7 @@ use Rattle.cpu.proofs.Rests.{going-ends}
 use Rattle.cpu.proofs.Seen.{first-by-le, first-by-few, part-by-le}
 use Rattle.cpu.specs.Held.{origin_at}
 use Rattle.cpu.proofs.Turning.{Stepped, again-kept, led-under, local-by, stepped, turned-by, wanted-by}
+use Rattle.cpu.proofs.Waking.{known}
 use Rattle.cpu.proofs.processor.Cpu.advance.Given.{Over}
 use Rattle.cpu.proofs.processor.Cpu.advance.Goals as goal
 
@@ -21,12 +22,12 @@ returns-then-not-is_going-clause-turned g c =
     let i = c.self.inside in
     let v = view_of i in
     let u = c.begun-under.result in
-    let means = c.begun-under.ensures.means i.heard i.log.seen.0 i.log.part i.log.first c.self.invariant.means in
+    let means = c.begun-under.ensures.means i.heard i.log.seen.0 i.log.part i.log.first (known i c.self.invariant (rw (← c.self.view_is) at c.requires.started)) in
     let ends = going-ends (origin_at i.limits i.vp.0 i.bank i.levels i.controllers) u.op u.stage _ (sym c.is_going.ensures ∙ c.if-not-is_going.true) c.in_default.not-Want means.rest in
     let own : operation_at c.args.program.now v.state ≡ Some u.op = rw (← c.operations-ops.ensures) c.begun-under.ensures.op in
     let v1 : Vp = view_of (record { vp = i.vp; limits = i.limits; zero_length = i.zero_length; one_length = i.one_length; started = i.started; bank = i.bank; levels = i.levels; controllers = i.controllers; under = Some u; owes = i.owes; heard = i.heard; log = c.stand.new.self }) in
     rw (← c.self.view_is, own) (local-by v v1 c.settle.new.self u.op ends.0 (g.P.Port.seat c.args.port.now) c.settle.result ends.1 (rw c.stand.ensures refl)
-    (λ grant. again-kept (origin_at i.limits i.vp.0 i.bank i.levels i.controllers) i.under u i.heard i.log.seen.0 i.log.part i.log.first ends.0 grant c.self.invariant.means c.begun-under.ensures.kept ends.1)
+    (λ grant. again-kept (origin_at i.limits i.vp.0 i.bank i.levels i.controllers) i.under u i.heard i.log.seen.0 i.log.part i.log.first ends.0 grant (known i c.self.invariant (rw (← c.self.view_is) at c.requires.started)) c.begun-under.ensures.kept ends.1)
     c.settle.ensures.new c.settle.ensures.turn)
 
 pub step-step-requires : goal.step-step-requires
@@ -46,7 +47,7 @@ pub judged-stage-requires-clause-may : goal.judged-stage-requires-clause-may
 judged-stage-requires-clause-may g c =
     let i = c.self.inside in
     let steps : StageSteps c.begun-under.result.stage (g.P.Port.seat c.args.port.now) (g.P.Port.seat c.step-step.new.port) c.step-step.result = c.step-step.ensures in
-    steps.is i.limits.pages i.vp.0 (c.begun-under.ensures.means i.heard i.log.seen.0 i.log.part i.log.first c.self.invariant.means).is
+    steps.is i.limits.pages i.vp.0 (c.begun-under.ensures.means i.heard i.log.seen.0 i.log.part i.log.first (known i c.self.invariant (rw (← c.self.view_is) at c.requires.started))).is
 
 pub invariant_of-self-2 : goal.invariant_of-self-2
 invariant_of-self-2 g c =
@@ -58,7 +59,7 @@ invariant_of-self-2 g c =
     let new = g.P.Port.seat c.step-step.new.port in
     let steps : StageSteps u.stage old new c.step-step.result = c.step-step.ensures in
     let phase : old.phase ≡ phase_at i.log.seen.0 i.log.first = rw (← c.self.view_is) at c.requires.serves.phase in
-    let st = stepped (origin_at i.limits i.vp.0 i.bank i.levels i.controllers) u i.heard i.log.seen.0 i.log.part i.log.first old new c.step-step.result w.part_le w.first_le phase (c.begun-under.ensures.means i.heard i.log.seen.0 i.log.part i.log.first w.means) steps in
+    let st = stepped (origin_at i.limits i.vp.0 i.bank i.levels i.controllers) u i.heard i.log.seen.0 i.log.part i.log.first old new c.step-step.result w.part_le w.first_le phase (c.begun-under.ensures.means i.heard i.log.seen.0 i.log.part i.log.first (known i w (rw (← c.self.view_is) at c.requires.started))) steps in
     let going : i.log.ended ≡ None = rw (← c.self.view_is) at c.requires.going in
     let started : i.started ≡ true = rw (← c.self.view_is) at c.requires.started in
     rw (c.see.ensures, c.stand.ensures) (record {
@@ -79,7 +80,7 @@ invariant_of-self-2 g c =
       spins = w.spins;
       owing = λ e. let answered : i.owes ≡ false = rw (← c.self.view_is) at c.requires.answered in let no : true ≡ false = sym e ∙ answered in cc;
       waits = λ e. let no : true ≡ false = sym started ∙ e in cc;
-      fresh = λ e. refl;
+      waiting = λ e. let no : true ≡ false = sym started ∙ e in cc;
       means = led-under (origin_at i.limits i.vp.0 i.bank i.levels i.controllers) u.op i.heard c.step-step.result.stage c.judged-stage.result _ _ _ st.led (record {
         is = c.judged-stage.ensures.is;
         rest = c.judged-stage.ensures.rest u.op;
@@ -95,7 +96,7 @@ way g c =
     let w = c.self.invariant in
     let old = g.P.Port.seat c.args.port.now in
     let phase : old.phase ≡ phase_at i.log.seen.0 i.log.first = rw (← c.self.view_is) at c.requires.serves.phase in
-    stepped (origin_at i.limits i.vp.0 i.bank i.levels i.controllers) c.begun-under.result i.heard i.log.seen.0 i.log.part i.log.first old (g.P.Port.seat c.step-step.new.port) c.step-step.result w.part_le w.first_le phase (c.begun-under.ensures.means i.heard i.log.seen.0 i.log.part i.log.first w.means) c.step-step.ensures
+    stepped (origin_at i.limits i.vp.0 i.bank i.levels i.controllers) c.begun-under.result i.heard i.log.seen.0 i.log.part i.log.first old (g.P.Port.seat c.step-step.new.port) c.step-step.result w.part_le w.first_le phase (c.begun-under.ensures.means i.heard i.log.seen.0 i.log.part i.log.first (known i w (rw (← c.self.view_is) at c.requires.started))) c.step-step.ensures
 
 pub returns-clause-turned : goal.returns-clause-turned
 returns-clause-turned g c =
@@ -128,7 +129,7 @@ returns-in-Want-clause-turned g c =
     let v = view_of i in
     let u = c.begun-under.result in
     let from : Origin = origin_at i.limits i.vp.0 i.bank i.levels i.controllers in
-    let means = c.begun-under.ensures.means i.heard i.log.seen.0 i.log.part i.log.first c.self.invariant.means in
+    let means = c.begun-under.ensures.means i.heard i.log.seen.0 i.log.part i.log.first (known i c.self.invariant (rw (← c.self.view_is) at c.requires.started)) in
     let rest = rw c.in-Want.is at means.rest in
     let own : operation_at c.args.program.now v.state ≡ Some u.op = rw (← c.operations-ops.ensures) c.begun-under.ensures.op in
     rw (← c.self.view_is, own) (wanted-by v _ u.op from c.in-Want.asked (g.P.Port.seat c.args.port.now) c.request.result rest (rw c.stand.ensures refl) (c.request.ensures from refl refl))
@@ -138,6 +139,6 @@ returns-in-Want-clause-slices g c =
     let i = c.self.inside in
     let u = c.begun-under.result in
     let from : Origin = origin_at i.limits i.vp.0 i.bank i.levels i.controllers in
-    let means = c.begun-under.ensures.means i.heard i.log.seen.0 i.log.part i.log.first c.self.invariant.means in
+    let means = c.begun-under.ensures.means i.heard i.log.seen.0 i.log.part i.log.first (known i c.self.invariant (rw (← c.self.view_is) at c.requires.started)) in
     let is : AskedIs from.pages c.in-Want.asked = rw c.in-Want.is at means.is in
     rw (c.request.ensures from refl refl) (asked-slice from.pages c.in-Want.asked is)

@@ -44,6 +44,6 @@ invariant_of-self-in-None c =
       spins = λ e. spins-on _ i.log.spins (v.spins going) (sym c.ending_on.ensures ∙ c.in-None.is);
       owing = λ e. let answered : i.owes ≡ false = rw (← c.self.view_is) at c.requires.answered in let no : true ≡ false = sym e ∙ answered in cc;
       waits = λ e. let none : op_of None ≡ Some c.args.op = rw (v.waits e) at op in cc;
-      fresh = λ e. let none : op_of None ≡ Some c.args.op = rw (v.waits e) at op in cc;
+      waiting = λ e. let none : op_of None ≡ Some c.args.op = rw (v.waits e) at op in cc;
       means = begun-under from _ i.heard i.log.seen.0 i.log.part _ v.vps quiet refl (tidy-begun i.log.part _ from c.args.op c.begin-stage.result _ c.begin-stage.ensures.is c.begin-stage.ensures.rest c.begin-stage.ensures.idle (c.begin-stage.ensures.no_poll c.requires.spins c.requires.no_call) asks) c.begin-stage.ensures.is c.begin-stage.ensures.rest c.begin-stage.ensures.idle;
     })

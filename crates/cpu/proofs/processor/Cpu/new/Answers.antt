@@ -24,6 +24,16 @@ invariant_of-result c = record {
   spins = λ e. spins-open;
   owing = λ e. cc;
   waits = λ e. refl;
-  fresh = λ e. refl;
-  means = (rw c.in_ok-seen.ensures refl, refl, refl);
+  waiting = λ e. record {
+    op = refl;
+    marks = rw c.in_ok-marks.ensures refl;
+    part = refl;
+    first = refl;
+    again = refl;
+    heard = refl;
+    ended = rw e at c.opening_ending-ended.ensures;
+    few = rw c.in_ok-seen.ensures (omega arith);
+    phase = rw c.in_ok-seen.ensures refl;
+  };
+  means = λ e. (rw c.in_ok-seen.ensures refl, refl, refl);
 }

@@ -19,7 +19,7 @@ returns-in_default-stage c =
     let tree = led_to from u.op i.heard i.log.seen.0 i.log.first in
     let goes_on : IsOpen tree = stage-open from u.op u.stage tree m.is m.rest c.in_default-stage.not-End in
     let answered : i.owes ≡ false = rw (← c.self.view_is) at c.requires.answered in
-    rw (← c.self.view_is, c.in-Some.is) (record { new = settled-stays tree _ goes_on; turn = answer-moves tree _ goes_on; owes = answered; short = none-new IsShort i.log.marks.0; phase = refl; same = record { number = refl; limits = refl; zero_length = refl; one_length = refl; started = refl }; kept = (refl, refl); within = c.self.invariant.marks_few })
+    rw (← c.self.view_is, c.in-Some.is) (record { new = settled-stays tree _ goes_on; turn = answer-moves tree _ goes_on; owes = answered; short = none-new IsShort i.log.marks.0; phase = refl; same = record { number = refl; limits = refl; zero_length = refl; one_length = refl; started = λ e. e }; kept = (refl, refl); within = c.self.invariant.marks_few })
 
 pub mark_again-requires-clause-asks : goal.mark_again-requires-clause-asks
 mark_again-requires-clause-asks c = λ o.

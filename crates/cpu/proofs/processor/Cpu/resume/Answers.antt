@@ -1,4 +1,4 @@
-use Rattle.std.proofs.Common.{◌≡◌, ◌-◌, Some, None, true, false, length, refl}
+use Rattle.std.proofs.Common.{◌≡◌, ◌-◌, Some, None, true, false, length, refl, sym, ◌∙◌}
 use Rattle.vsm_core.specs.Outcomes.{Origin}
 use Rattle.vsm_core.specs.Processor.{Vp}
 use Rattle.cpu.specs.declared.stage.Under.{Under}
@@ -6,7 +6,7 @@ use Rattle.cpu.specs.Held.{origin_at}
 use Rattle.cpu.specs.Sound.{view_of}
 use Rattle.cpu.specs.Stages.{op_of}
 use Rattle.cpu.proofs.Replies.{accepted-by, replied-under, want-rest}
-use Rattle.cpu.proofs.processor.Cpu.accept.Goals as goal
+use Rattle.cpu.proofs.processor.Cpu.resume.Goals as goal
 
 pub invariant_of-self : goal.invariant_of-self
 invariant_of-self c =
@@ -17,7 +17,8 @@ invariant_of-self c =
     let m = rw c.in-Some.is at v.means in
     let owes : i.owes ≡ true = rw (← c.self.view_is) at c.requires.owes in
     let owing = v.owing owes in
-    let wants = rw c.in-Some.is at owing.wants in
+    let started : i.started ≡ true = rw (← c.self.view_is) at c.requires.started in
+    let wants = rw c.in-Some.is at owing.wants started in
     let op : op_of i.under ≡ Some u.op = rw c.in-Some.is refl in
     let stage = c.replied_stage-stage in
     record {
@@ -38,7 +39,7 @@ invariant_of-self c =
       spins = v.spins;
       owing = λ e. cc;
       waits = λ e. let none : op_of None ≡ Some u.op = rw (v.waits e) at op in cc;
-      fresh = v.fresh;
+      waiting = λ e. let no : true ≡ false = sym started ∙ e in cc;
       means = rw c.as_slice.ensures (replied-under from u stage.result i.heard i.log.seen.0 i.log.part i.log.first c.args.reply owing.unheard m (record { wants = wants; is = stage.ensures.is from.pages m.is; rest = λ tree. stage.ensures.rest from u.op tree refl m.is; at = stage.ensures.at }));
     }
 
@@ -50,7 +51,8 @@ returns-clause-accepted c =
     let m = rw c.in-Some.is at c.self.invariant.means in
     let owes : i.owes ≡ true = rw (← c.self.view_is) at c.requires.owes in
     let owing = c.self.invariant.owing owes in
-    let wants = rw c.in-Some.is at owing.wants in
+    let started : i.started ≡ true = rw (← c.self.view_is) at c.requires.started in
+    let wants = rw c.in-Some.is at owing.wants started in
     let r = want-rest from u.op u.stage _ wants m.rest in
     let v : Vp = view_of (record { vp = i.vp; limits = i.limits; zero_length = i.zero_length; one_length = i.one_length; started = i.started; bank = i.bank; levels = i.levels; controllers = i.controllers; under = Some u; owes = i.owes; heard = i.heard; log = i.log }) in
     let next : Under = record { op = u.op; stage = c.replied_stage-stage.result } in
