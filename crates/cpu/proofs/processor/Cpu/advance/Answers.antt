@@ -108,7 +108,7 @@ step-step-requires g c =
     let limits : old.limits ≡ i.limits = rw (← c.self.view_is) at c.requires.serves.limits in
     let number : old.vp ≡ i.vp.0 = rw (← c.self.view_is) at c.requires.serves.vp in
     let phase : old.phase ≡ phase_at i.log.seen.0 i.log.first = rw (← c.self.view_is) at c.requires.serves.phase in
-    let way = c.begun-under.ensures.means i.heard i.log.seen.0 i.log.part i.log.first c.self.invariant.means in
+    let way = c.begun-under.ensures.means i.heard i.log.seen.0 i.log.part i.log.first (known i c.self.invariant (rw (← c.self.view_is) at c.requires.started)) in
     let own : IsOwnPort from old = record { pages = ap (λ (z : Limits). z.pages) limits; vps = ap (λ (z : Limits). z.vps) limits; number = number; below = rw (limits, number) c.self.invariant.vp } in
     stage-serves from u.op u.stage _ old own way.is way.rest (rw phase way.phase) (sym c.is_going.ensures ∙ c.if-not-is_going.false)
 
