@@ -79,13 +79,6 @@ invariant_of-self-then-not-is_going g c =
       means = way;
     })
 
-pub step-step-requires : goal.step-step-requires
-step-step-requires g c =
-    let i = c.self.inside in
-    let u = c.begun-under.result in
-    let way : IsUnderWay (origin_at i.limits i.vp.0 i.bank i.levels i.controllers) u i.heard i.log.seen.0 i.log.part i.log.first = c.begun-under.ensures.means i.heard i.log.seen.0 i.log.part i.log.first (known i c.self.invariant (rw (← c.self.view_is) at c.requires.started)) in
-    search rules
-
 pub returns-then-not-is_going-clause-turned : goal.returns-then-not-is_going-clause-turned
 returns-then-not-is_going-clause-turned g c =
     let i = c.self.inside in
