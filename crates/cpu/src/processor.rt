@@ -519,6 +519,13 @@ impl Cpu {
         self.vp
     }
 
+    /// Whether the processor has started.
+    pub fn started(&self) -> bool
+        ensures { result ≡ self.now.started }
+    {
+        self.started
+    }
+
     /// Why the processor runs no more, if it doesn't.
     pub fn ended(&self) -> Option<Ending>
         ensures { result ≡ self.now.ended }
