@@ -1,100 +1,28 @@
 -- A hypercall that isn't refused at once, before its first step.
-use Rattle.std.proofs.Common.{◌≡◌, ◌∙◌, ◌+◌, ◌*◌, ◌/◌, ◌%◌, ◌<◌, ◌≤◌, ◌==◌, ℕ, Bool, true, false, cond, is_some, Option, Some, None, IfSome, List, [], ◌∷◌, refl, sym, ap, subst, arith, lit<}
+use Rattle.std.proofs.Common.{◌≡◌, ◌∙◌, ◌+◌, ◌*◌, ◌/◌, ◌%◌, ◌<◌, ◌≤◌, ◌==◌, ℕ, Bool, true, false, cond, is_some, Option, Some, None, IfSome, [], ◌∷◌, refl, sym, ap, subst, arith, lit<}
 use Rattle.vsm_base.specs.declared.places.Vtl.{Vtl}
 use Rattle.vsm_base.specs.declared.status.HvStatus.{HvStatus}
 use Rattle.vsm_core.specs.declared.mark.GuestFault.TheVariants.{Undefined}
 use Rattle.vsm_core.specs.declared.operation.Op.{Op}
-use Rattle.vsm_core.specs.declared.request.PartCall.{PartCall}
-use Rattle.vsm_core.specs.declared.request.PartCall.TheVariants as parts
-use Rattle.vsm_core.specs.declared.request.Reply.{Reply}
-use Rattle.vsm_core.specs.Attempt.{admitted, by_memory, by_refusal, hypercall_tree, requests}
+use Rattle.vsm_core.specs.Attempt.{admitted, by_memory, by_refusal, by_registers, hypercall_tree}
 use Rattle.vsm_core.specs.Calls.{Row, code_in, is_fast, row_of}
-use Rattle.vsm_core.specs.Hypercalls.{asked_of, call_of, fast_words, has_output, input_address, input_refusal, input_value, output_address, replied}
+use Rattle.vsm_core.specs.Hypercalls.{fast_words, has_output, input_address, input_refusal, input_value, output_address}
 use Rattle.vsm_core.specs.Outcomes.{Origin, Outcome, faulted}
-use Rattle.vsm_core.specs.RegisterCalls.{count_of, slice_outcome, start_of}
-use Rattle.vsm_core.specs.Reps.{first_word, replied_end, slice_past, words_between}
+use Rattle.vsm_core.specs.RegisterCalls.{count_of, start_of}
+use Rattle.vsm_core.specs.Reps.{first_word, slice_past, words_between}
 use Rattle.vsm_core.specs.State.{privilege_of}
-use Rattle.vsm_core.specs.Tree.{Tree, Ends, Wants}
+use Rattle.vsm_core.specs.Tree.{Tree, Ends}
 use Rattle.hyper_abi.specs.Told.{row_for}
 use Rattle.hyper_abi.specs.declared.admission.Admission.{Admission}
 use Rattle.hyper_abi.specs.declared.form.Call.{Call}
 use Rattle.hyper_abi.specs.declared.form.Call.TheVariants as calls
-use Rattle.cpu.specs.declared.input.Asked.TheVariants.{EnablePartition, EnableVp, Modify, Flush, Write, Look}
 use Rattle.cpu.specs.declared.input.Site.{Site}
 use Rattle.cpu.specs.declared.stage.Stage.{Stage}
-use Rattle.cpu.specs.declared.stage.Stage.TheVariants.{Input, Want}
+use Rattle.cpu.specs.declared.stage.Stage.TheVariants.{Input}
 use Rattle.cpu.specs.Admitted.{opening_input}
-use Rattle.rep_frame.specs.declared.getting.Look.TheVariants.{Status, Config}
-use Rattle.cpu.specs.Inputs.{IsOf, InputIs, header_words, part_call}
+use Rattle.cpu.specs.Inputs.{IsOf, InputIs, header_words}
 use Rattle.cpu.specs.Sites.{SiteIs, site_at}
-use Rattle.cpu.specs.Stages.{StageIs, StageRest, WantsCall}
-
--- a call by whether its code is that of the first, of the second or of the third
-abbrev call_by : (modifies partition vp : Bool) → (words : List ℕ) → (start count : ℕ) → PartCall
-call_by modifies partition vp words start count =
-    cond modifies (parts.Modify words (record { items = [] }) start count) (cond partition (parts.EnablePartition words) (cond vp (parts.EnableVp words) (parts.Flush count)))
-
-abbrev IsOfLevels : PartCall → Type 0
-IsOfLevels (parts.EnablePartition words) = Unit {0}
-IsOfLevels (parts.EnableVp words) = Unit {0}
-IsOfLevels _ = ⊥
-
--- a call that has no elements is one of levels
-of-levels : (b c d : Bool) (words : List ℕ) (call : PartCall) → call ≡ call_by b c d words 0 0 → call ≡ call_by b c d words 1 1 → IsOfLevels call
-of-levels true c d words call e f = absurd (two-starts words (sym e ∙ f)) where
-  two-starts : (found : List ℕ) → call_by true c d found 0 0 ≡ call_by true c d found 1 1 → ⊥
-  two-starts found same = cc
-of-levels false true d words call e f = rw e tt
-of-levels false false true words call e f = rw e tt
-of-levels false false false words call e f = absurd (two-counts words (sym e ∙ f)) where
-  two-counts : (found : List ℕ) → call_by false false false found 0 0 ≡ call_by false false false found 1 1 → ⊥
-  two-counts found same = cc
-
--- and such a call is not the first
-no-modify : (b c d : Bool) (words : List ℕ) (start count : ℕ) (call : PartCall) → IsOfLevels call → call ≡ call_by b c d words start count → b ≡ false
-no-modify false c d words start count call is e = refl
-no-modify true c d words start count call is e = let no : ⊥ = rw e at is in absurd no
-
-abbrev WantsCode : ℕ → List ℕ → PartCall → Type 0
-WantsCode code words call = (start count : ℕ) → call ≡ call_of code words [] start count
-
-wants-levels : (code : ℕ) (words : List ℕ) (call : PartCall) → WantsCode code words call → IsOfLevels call
-wants-levels code words call e = of-levels (code == 0x000C) (code == 0x000D) (code == 0x000F) words call (e 0 0) (e 1 1)
-
--- what is left where its result is that of a slice, and else
-abbrev served_by : Bool → Origin → Reply → Outcome
-served_by modifies from reply = cond modifies (slice_outcome from from.state [] (replied_end reply.status reply.done (count_of from))) (replied from reply)
-
-abbrev requests_so : Bool → Origin → PartCall → Tree Outcome
-requests_so modifies from call = Wants (asked_of from call) (λ (reply : Reply). Ends (served_by modifies from reply))
-
--- it asks the partition at once
-wants-so : (from : Origin) (code : ℕ) (words : List ℕ) (call : PartCall) → WantsCode code words call → requests from code words [] ≡ requests_so false from call
-wants-so from code words call e =
-    let start : ℕ = start_of from in
-    let count : ℕ = count_of from in
-    let plain : (code == 0x000C) ≡ false = no-modify (code == 0x000C) (code == 0x000D) (code == 0x000F) words start count call (wants-levels code words call e) (e start count) in
-    ap (requests_so (code == 0x000C) from) (sym (e start count)) ∙ ap (λ b. requests_so b from call) plain
-
-want-rest : (from : Origin) (op : Op) (stage : Stage) (code : ℕ) (words : List ℕ) → WantsCall stage code words → StageRest from op stage (requests from code words [])
-want-rest from op (Want (EnablePartition found)) code words e = wants-so from code words (parts.EnablePartition found) e
-want-rest from op (Want (EnableVp found)) code words e = wants-so from code words (parts.EnableVp found) e
-want-rest from op (Want (Modify slice)) code words e = absurd (wants-levels code words (part_call (Modify slice)) e)
-want-rest from op (Want (Flush total)) code words e = absurd (wants-levels code words (parts.Flush total) e)
-want-rest from op (Want (Write value)) code words e = absurd (wants-levels code words (parts.WriteConfig value) e)
-want-rest from op (Want (Look Status output at)) code words e = absurd (wants-levels code words parts.ReadStatus e)
-want-rest from op (Want (Look Config output at)) code words e = absurd (wants-levels code words parts.ReadConfig e)
-want-rest from op _ code words e = absurd e
-
-want-is : (pages number : ℕ) (stage : Stage) (code : ℕ) (words : List ℕ) → WantsCall stage code words → StageIs pages number stage
-want-is pages number (Want (EnablePartition found)) code words e = tt
-want-is pages number (Want (EnableVp found)) code words e = tt
-want-is pages number (Want (Modify slice)) code words e = absurd (wants-levels code words (part_call (Modify slice)) e)
-want-is pages number (Want (Flush total)) code words e = absurd (wants-levels code words (parts.Flush total) e)
-want-is pages number (Want (Write value)) code words e = absurd (wants-levels code words (parts.WriteConfig value) e)
-want-is pages number (Want (Look Status output at)) code words e = absurd (wants-levels code words parts.ReadStatus e)
-want-is pages number (Want (Look Config output at)) code words e = absurd (wants-levels code words parts.ReadConfig e)
-want-is pages number _ code words e = absurd e
+use Rattle.cpu.specs.Stages.{StageIs, StageRest}
 
 -- an output that it may have
 output-some : (has : Bool) (site : Site) → is_some (cond has (Some site) None) ≡ has
@@ -111,6 +39,8 @@ header-some calls.FlushVirtualAddressList = lit< tt
 header-some calls.ModifyVtlProtectionMask = lit< tt
 header-some calls.EnablePartitionVtl = lit< tt
 header-some calls.EnableVpVtl = lit< tt
+header-some calls.SendSyntheticClusterIpi = lit< tt
+header-some calls.StartVirtualProcessor = lit< tt
 header-some calls.GetVpRegisters = lit< tt
 header-some calls.SetVpRegisters = lit< tt
 
@@ -159,22 +89,22 @@ memory-of from a address output is = record {
 }
 
 -- its first stage
-pub record IsFirst (from : Origin) (a : Admission) (address output : ℕ) (stage : Stage) : Type 0 where
-  pub fast : a.fast ≡ true → WantsCall stage (row_for a.call).code (address ∷ output ∷ [])
+pub record IsFirst (from : Origin) (op : Op) (a : Admission) (address output : ℕ) (stage : Stage) : Type 0 where
+  pub fast : a.fast ≡ true → StageRest from op stage (by_registers from (row_for a.call).code (address ∷ output ∷ []))
   pub memory : a.fast ≡ false → stage ≡ Input (opening_input a from.state.active address output)
 
 abbrev admitted_by : Bool → Origin → Row → (address output : ℕ) → Tree Outcome
-admitted_by fast from row address output = cond fast (requests from row.code (address ∷ output ∷ []) []) (by_memory from row address)
+admitted_by fast from row address output = cond fast (by_registers from row.code (address ∷ output ∷ [])) (by_memory from row address)
 
-first-by : (fast : Bool) (from : Origin) (op : Op) (a : Admission) (address output : ℕ) (stage : Stage) → a.fast ≡ fast → IsFirst from a address output stage → IsRead from a address output → StageRest from op stage (admitted_by fast from (row_for a.call) address output)
-first-by true from op a address output stage e first is = want-rest from op stage (row_for a.call).code (address ∷ output ∷ []) (first.fast e)
+first-by : (fast : Bool) (from : Origin) (op : Op) (a : Admission) (address output : ℕ) (stage : Stage) → a.fast ≡ fast → IsFirst from op a address output stage → IsRead from a address output → StageRest from op stage (admitted_by fast from (row_for a.call) address output)
+first-by true from op a address output stage e first is = first.fast e
 first-by false from op a address output stage e first is =
     subst (λ s. StageRest from op s (by_memory from (row_for a.call) address)) (sym (first.memory e)) (record { of = memory-of from a address output is; rest = refl })
 
 admitted-same : (from : Origin) (a : Admission) (address output : ℕ) → IsRead from a address output → admitted from (row_for a.call) ≡ admitted_by a.fast from (row_for a.call) address output
 admitted-same from a address output is =
     let row : Row = row_for a.call in
-    ap (λ fast. cond fast (requests from row.code (fast_words from.state) []) (by_memory from row (input_address from.state))) (sym is.fast)
+    ap (λ fast. cond fast (by_registers from row.code (fast_words from.state)) (by_memory from row (input_address from.state))) (sym is.fast)
     ∙ ap (λ first. admitted_by a.fast from row first (output_address from.state)) (sym is.placed)
     ∙ ap (λ second. admitted_by a.fast from row address second) (sym is.put)
 
@@ -184,15 +114,15 @@ called true from row found refusal e some none = ap (λ (f : Option Row). by_ref
 called false from row found refusal e some none = cc
 
 pub call-rest : (from : Origin) (op : Op) (a : Admission) (address output : ℕ) (stage : Stage) → (privilege_of from.state == 0) ≡ true → row_of (code_in (input_value from.state)) ≡ Some (row_for a.call)
-    → input_refusal from.pages (row_of (code_in (input_value from.state))) (input_value from.state) (input_address from.state) (output_address from.state) ≡ None → IsFirst from a address output stage → IsRead from a address output
+    → input_refusal from.pages (row_of (code_in (input_value from.state))) (input_value from.state) (input_address from.state) (output_address from.state) ≡ None → IsFirst from op a address output stage → IsRead from a address output
     → StageRest from op stage (hypercall_tree from)
 call-rest from op a address output stage privilege row none first is =
     subst (StageRest from op stage) (sym (called (privilege_of from.state == 0) from (row_for a.call) _ _ privilege row none ∙ admitted-same from a address output is))
     (first-by a.fast from op a address output stage refl first is)
 
-first-is : (fast : Bool) (pages number : ℕ) (from : Origin) (a : Admission) (address output : ℕ) (stage : Stage) → a.fast ≡ fast → IsFirst from a address output stage → (a.fast ≡ false → IsPlaced pages a address output) → StageIs pages number stage
-first-is true pages number from a address output stage e first placed = want-is pages number stage (row_for a.call).code (address ∷ output ∷ []) (first.fast e)
-first-is false pages number from a address output stage e first placed = subst (StageIs pages number) (sym (first.memory e)) (memory-is pages a from.state.active address output (placed e))
+first-is : (fast : Bool) (pages number : ℕ) (level : Vtl) (a : Admission) (address output : ℕ) (stage : Stage) → a.fast ≡ fast → (a.fast ≡ true → StageIs pages number stage) → (a.fast ≡ false → stage ≡ Input (opening_input a level address output)) → (a.fast ≡ false → IsPlaced pages a address output) → StageIs pages number stage
+first-is true pages number level a address output stage e registers memory placed = registers e
+first-is false pages number level a address output stage e registers memory placed = subst (StageIs pages number) (sym (memory e)) (memory-is pages a level address output (placed e))
 
-pub call-is : (pages number : ℕ) (from : Origin) (a : Admission) (address output : ℕ) (stage : Stage) → IsFirst from a address output stage → (a.fast ≡ false → IsPlaced pages a address output) → StageIs pages number stage
-call-is pages number from a address output stage first placed = first-is a.fast pages number from a address output stage refl first placed
+pub call-is : (pages number : ℕ) (level : Vtl) (a : Admission) (address output : ℕ) (stage : Stage) → (a.fast ≡ true → StageIs pages number stage) → (a.fast ≡ false → stage ≡ Input (opening_input a level address output)) → (a.fast ≡ false → IsPlaced pages a address output) → StageIs pages number stage
+call-is pages number level a address output stage registers memory placed = first-is a.fast pages number level a address output stage refl registers memory placed

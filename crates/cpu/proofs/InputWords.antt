@@ -155,6 +155,8 @@ header-some calls.FlushVirtualAddressList = refl
 header-some calls.ModifyVtlProtectionMask = refl
 header-some calls.EnablePartitionVtl = refl
 header-some calls.EnableVpVtl = refl
+header-some calls.SendSyntheticClusterIpi = refl
+header-some calls.StartVirtualProcessor = refl
 header-some calls.GetVpRegisters = refl
 header-some calls.SetVpRegisters = refl
 

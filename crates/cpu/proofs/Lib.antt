@@ -9,6 +9,7 @@ pub mod Planned
 pub mod Polls
 pub mod ContextGiven
 pub mod Judged
+pub mod Lending
 pub mod Looked
 pub mod NoStarts
 pub mod Marking
@@ -16,6 +17,7 @@ pub mod InputWords
 pub mod Intercepted
 pub mod PageSlices
 pub mod Replies
+pub mod Sendings
 pub mod Rests
 pub mod Steps
 pub mod Turning

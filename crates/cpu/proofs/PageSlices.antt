@@ -13,7 +13,7 @@ use Rattle.vsm_core.specs.Tree.{Tree, Ends, Asks, Wants, Leaving}
 use Rattle.hyper_abi.specs.declared.form.Call.TheVariants.{FlushVirtualAddressSpace, FlushVirtualAddressList, ModifyVtlProtectionMask}
 use Rattle.rep_frame.specs.declared.getting.Look.TheVariants.{Status, Config}
 use Rattle.cpu.specs.declared.input.Asked.{Asked}
-use Rattle.cpu.specs.declared.input.Asked.TheVariants.{EnablePartition, EnableVp, Modify, Flush, Write, Look}
+use Rattle.cpu.specs.declared.input.Asked.TheVariants.{EnablePartition, EnableVp, Start, Modify, Flush, Write, Look}
 use Rattle.cpu.specs.declared.input.Input.{Input}
 use Rattle.cpu.specs.Inputs.{AskedIs, ReadRest, page_slice_of, part_call, words_of}
 use Rattle.cpu.specs.Stages.{departs}
@@ -72,6 +72,7 @@ flush-list-rest from i tree call rest = rest.rest ∙ ap (λ c. found_by from i 
 pub asked-slice : (pages : ℕ) (asked : Asked) → AskedIs pages asked → IsSlice (part_call asked)
 asked-slice pages (EnablePartition words) is = tt
 asked-slice pages (EnableVp words) is = tt
+asked-slice pages (Start words) is = tt
 asked-slice pages (Modify slice) is =
     let long = length-take slice.length slice.pages in
     let few : length (take slice.length slice.pages) ≤ slice.length = omega (arith, long) in

@@ -18,9 +18,11 @@ use Rattle.vsm_core.specs.declared.mark.EomWord.TheVariants as eoms
 use Rattle.vsm_core.specs.declared.note.Note.{Note}
 use Rattle.vsm_core.specs.Access.{Goal, Decision, data_step}
 use Rattle.vsm_base.specs.declared.status.HvStatus.{HvStatus}
-use Rattle.vsm_core.specs.Calls.{Row, row_of, code_in, is_fast}
-use Rattle.vsm_core.specs.Hypercalls.{input_value, input_address, output_address, fast_words, input_refusal}
-use Rattle.vsm_core.specs.Attempt.{attempt, begun, by_refusal, by_memory, requests, left_with, goal_of, in_own_access, told_on, returns, eom_on, hits_on, intercepted, is_read_hit, is_write_hit, is_wanted, wanted_outcome, unwanted_outcome}
+use Rattle.vsm_base.specs.declared.status.TheConstants.HvStatus as statuses
+use Rattle.vsm_core.specs.Calls.{Row, row_of, code_in, is_fast, first_failed}
+use Rattle.vsm_core.specs.Hypercalls.{input_value, input_address, output_address, fast_words, input_refusal, result_outcome}
+use Rattle.vsm_core.specs.Interrupts.{vector_in, processors_in, interrupted_level, interrupt_checks, those_in, interrupt_steps}
+use Rattle.vsm_core.specs.Attempt.{attempt, begun, by_refusal, by_memory, by_registers, interrupts, interrupts_by, requests, left_with, goal_of, in_own_access, told_on, returns, eom_on, hits_on, intercepted, is_read_hit, is_write_hit, is_wanted, wanted_outcome, unwanted_outcome}
 use Rattle.vsm_core.specs.Controllers.{Controllers, message_page, eom_by, waiting_then, with_taken}
 use Rattle.vsm_core.specs.Fills.{Cached, Fill}
 use Rattle.vsm_core.specs.Outcomes.{Origin, Outcome, outcome_at, faulted, plain, loaded, passed, spun, set_outcome, get_outcome, empties, note_of, register_note, denied_outcome, held_outcome, hit_outcome, eom_outcome}
@@ -41,7 +43,7 @@ use Rattle.cpu.specs.declared.decided.Decided.TheVariants as decisions
 use Rattle.cpu.specs.declared.stage.Stage.{Stage}
 use Rattle.cpu.specs.declared.decided.Intercept.{Intercept}
 use Rattle.cpu.specs.declared.decided.Refusal.{Refusal}
-use Rattle.cpu.specs.declared.stage.Stage.TheVariants.{Reach, Take, Judge, Touch, Input, Depart, Want, Output, Leave, End}
+use Rattle.cpu.specs.declared.stage.Stage.TheVariants.{Reach, Take, Judge, Touch, Input, Depart, Want, Quit, Send, Output, Leave, End}
 use Rattle.cpu.specs.declared.task.Taken.{Taken}
 use Rattle.cpu.specs.declared.task.Gate.{Gate}
 use Rattle.cpu.specs.declared.task.Gate.TheVariants.{Outside, Entered, Inside}
@@ -126,6 +128,8 @@ stage-asks from op (Touch gate task) tree is r not_want not_end = rw r.1 (gate-a
 stage-asks from op (Input input) tree is r not_want not_end = rw r.rest (spot-asks from input input.spot is.left)
 stage-asks from op (Depart asked) tree is r not_want not_end = (_, _, r)
 stage-asks from op (Want asked) tree is r not_want not_end = absurd (not_want asked refl)
+stage-asks from op (Quit sending) tree is r not_want not_end = (_, _, r.rest)
+stage-asks from op (Send sending) tree is r not_want not_end = (_, _, r.rest)
 stage-asks from op (Output output) tree is r not_want not_end = rw r (door-asks from output.site output.door (task_rest from op [] (Make output.plan output.decided)))
 stage-asks from op (Leave decided) tree is r not_want not_end = (_, _, r.1)
 stage-asks from op (End decided) tree is r not_want not_end = absurd (not_end decided refl)
@@ -146,6 +150,8 @@ stage-open from op (Touch gate task) tree is r not_end = asking-open tree (stage
 stage-open from op (Input input) tree is r not_end = asking-open tree (stage-asks from op (Input input) tree is r (λ asked e. cc) not_end)
 stage-open from op (Depart asked) tree is r not_end = asking-open tree (stage-asks from op (Depart asked) tree is r (λ other e. cc) not_end)
 stage-open from op (Want asked) tree is r not_end = rw r tt
+stage-open from op (Quit sending) tree is r not_end = rw r.rest tt
+stage-open from op (Send sending) tree is r not_end = rw r.rest tt
 stage-open from op (Output output) tree is r not_end = asking-open tree (stage-asks from op (Output output) tree is r (λ asked e. cc) not_end)
 stage-open from op (Leave decided) tree is r not_end = asking-open tree (stage-asks from op (Leave decided) tree is r (λ asked e. cc) not_end)
 stage-open from op (End decided) tree is r not_end = absurd (not_end decided refl)
@@ -219,10 +225,24 @@ eom_on-no-again from None waiting = eom-outcome-stays from None
 eom_on-no-again from (Some page) [] = eom-outcome-stays from None
 eom_on-no-again from (Some page) (note ∷ more) = tt
 
+-- a call that requests an interrupt
+steps-no-again : (steps : List WordStep) (o : Outcome) → NoAgain (Ends o) → NoAgain (asks_all steps (Ends o))
+steps-no-again [] o h = h
+steps-no-again (s ∷ steps) o h = tt
+
+interrupts-no-again : (from : Origin) (header : List ℕ) (refusal : Option HvStatus) → NoAgain (interrupts_by from header refusal)
+interrupts-no-again from header None =
+    steps-no-again (interrupt_steps (interrupted_level from.state.active header) (vector_in header) (those_in (processors_in header) 0 from.vps)) (result_outcome from from.state statuses.SUCCESS 0) (λ grant e. cc)
+interrupts-no-again from header (Some status) = λ grant e. cc
+
+by_registers-no-again : (from : Origin) (code : ℕ) (header : List ℕ) → NoAgain (by_registers from code header)
+by_registers-no-again from code header =
+    NoAgain-tree (code == 0x000B) (interrupts from header) (requests from code header []) (interrupts-no-again from header (first_failed (interrupt_checks from.vps from.state.active header))) tt
+
 by_refusal-no-again : (from : Origin) (row : Option Row) (refusal : Option HvStatus) → NoAgain (by_refusal from row refusal)
 by_refusal-no-again from row (Some status) = λ grant e. cc
 by_refusal-no-again from None None = λ grant e. cc
-by_refusal-no-again from (Some row) None = NoAgain-tree (is_fast (input_value from.state)) (requests from row.code (fast_words from.state) []) (by_memory from row (input_address from.state)) tt tt
+by_refusal-no-again from (Some row) None = NoAgain-tree (is_fast (input_value from.state)) (by_registers from row.code (fast_words from.state)) (by_memory from row (input_address from.state)) (by_registers-no-again from row.code (fast_words from.state)) tt
 
 pub attempt-no-again : (from : Origin) (op : Op) → NoAgain (attempt from op)
 attempt-no-again from (Set name value) =

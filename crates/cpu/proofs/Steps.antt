@@ -7,7 +7,7 @@ use Rattle.vsm_core.specs.Steps.{made, phase_after}
 use Rattle.vsm_core.specs.Tree.{Tree, Ends, Asks, Wants, WordStep, Entering, Checking, Masking, Reading, Writing, Leaving, Posting, Taking, then_}
 use Rattle.vsm_core.specs.Turns.{Turned}
 use Rattle.cpu.specs.declared.stage.Stage.{Stage}
-use Rattle.cpu.specs.declared.stage.Stage.TheVariants.{Reach, Take, Judge, Touch, Input, Depart, Want, Output, Leave, End}
+use Rattle.cpu.specs.declared.stage.Stage.TheVariants.{Reach, Take, Judge, Touch, Input, Depart, Want, Quit, Send, Output, Leave, End}
 use Rattle.cpu.specs.declared.task.Case.TheVariants.{Refused, Found, Polled, Read}
 use Rattle.cpu.specs.declared.task.Gate.TheVariants as gates
 use Rattle.cpu.specs.declared.input.Spot.{Spot}
@@ -58,6 +58,8 @@ tidy-reached part first (Touch gate task) phase is at h = absurd is
 tidy-reached part first (Input input) phase is at h = absurd is
 tidy-reached part first (Depart asked) phase is at h = absurd is
 tidy-reached part first (Want asked) phase is at h = absurd is
+tidy-reached part first (Quit sending) phase is at h = absurd is
+tidy-reached part first (Send sending) phase is at h = absurd is
 tidy-reached part first (Output output) phase is at h = absurd is
 tidy-reached part first (Leave decided) phase is at h = in-tidy part first phase at h
 tidy-reached part first (End decided) phase is at h = absurd is

@@ -20,7 +20,7 @@ use Rattle.hyper_abi.specs.Told.{row_for}
 use Rattle.rep_frame.specs.Asks.{look_call}
 use Rattle.hyper_abi.specs.declared.form.Call.{Call}
 use Rattle.cpu.specs.declared.input.Asked.{Asked}
-use Rattle.cpu.specs.declared.input.Asked.TheVariants.{EnablePartition, EnableVp, Modify, Flush, Write, Look}
+use Rattle.cpu.specs.declared.input.Asked.TheVariants.{EnablePartition, EnableVp, Start, Modify, Flush, Write, Look}
 use Rattle.cpu.specs.declared.input.Input.{Input}
 use Rattle.cpu.specs.declared.input.PageSlice.{PageSlice}
 use Rattle.cpu.specs.declared.input.Site.{Site}
@@ -31,6 +31,7 @@ use Rattle.cpu.specs.Sites.{SiteIs}
 abbrev pub part_call : Asked → PartCall
 part_call (EnablePartition words) = parts.EnablePartition words
 part_call (EnableVp words) = parts.EnableVp words
+part_call (Start words) = parts.Start words
 part_call (Modify slice) = parts.Modify slice.header (record { items = take slice.length slice.pages }) slice.start slice.total
 part_call (Flush total) = parts.Flush total
 part_call (Write value) = parts.WriteConfig value

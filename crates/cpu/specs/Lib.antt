@@ -5,6 +5,7 @@ pub mod Logs
 pub mod Looks
 pub mod Outputs
 pub mod Results
+pub mod Sends
 pub mod Sites
 pub mod Slices
 pub mod Sound

@@ -57,6 +57,7 @@ pub record IsOwing (c : Inside) : Type 0 where
 -- there is room for what the budget still allows, and the stage is where the events so far have led
 pub record IsSound (c : Inside) : Type 0 where
   pub vp : c.vp.0 < c.limits.vps
+  pub vps : c.limits.vps ≤ 8
   pub budget : c.limits.budget ≤ 10000
   pub marks_room : c.log.marks.1 ≡ c.limits.budget
   pub seen_room : c.log.seen.1 ≡ 64 * c.limits.budget

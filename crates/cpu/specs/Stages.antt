@@ -1,5 +1,5 @@
 -- What is left of an attempt at a stage, and what a step from a stage is.
-use Rattle.std.specs.Prelude.{◌≡◌, ◌≢◌, ℕ, ◌<◌, ◌≤◌, Option, Some, None, IfSome, Bool, true, false, List, [], drop, length}
+use Rattle.std.specs.Prelude.{◌≡◌, ◌≢◌, ℕ, ◌<◌, ◌≤◌, Option, Some, None, IfSome, Bool, true, false, List, drop, length}
 use Rattle.vsm_core.specs.declared.event.Event.{Event}
 use Rattle.vsm_core.specs.declared.event.Phase.{Phase}
 use Rattle.vsm_core.specs.declared.event.Phase.TheVariants.{Idle, Entered, In}
@@ -10,7 +10,6 @@ use Rattle.vsm_core.specs.declared.request.Heard.{Heard}
 use Rattle.vsm_core.specs.Access.{Decision}
 use Rattle.vsm_core.specs.Attempt.{attempt, leaves, left_with, most_steps}
 use Rattle.vsm_core.specs.Fills.{Cached}
-use Rattle.vsm_core.specs.Hypercalls.{call_of}
 use Rattle.vsm_core.specs.Outcomes.{Origin, Outcome}
 use Rattle.vsm_core.specs.Processor.{answers_of}
 use Rattle.vsm_core.specs.Seat.{Seat}
@@ -19,12 +18,12 @@ use Rattle.vsm_core.specs.Tree.{Tree, Ends, Asks, Wants, Leaving, then_, followe
 use Rattle.vsm_core.specs.Turns.{Turned}
 use Rattle.access_path.specs.declared.place.Place.TheVariants.{Over}
 use Rattle.access_path.specs.Rest.{Rest, IsAt, Serves}
-use Rattle.cpu.specs.Inputs.{AskedIs, InputRest, InputIs, InputRead, InputServes, ReadRest, SpotAt, asks_for, part_call}
+use Rattle.cpu.specs.Inputs.{AskedIs, InputRest, InputIs, InputRead, InputServes, ReadRest, SpotAt, asks_for}
 use Rattle.cpu.specs.declared.input.Asked.{Asked}
 use Rattle.cpu.specs.declared.input.Spot.{Spot}
 use Rattle.cpu.specs.declared.input.Spot.TheVariants as spots
 use Rattle.cpu.specs.declared.stage.Stage.{Stage}
-use Rattle.cpu.specs.declared.stage.Stage.TheVariants.{Reach, Take, Judge, Touch, Input, Depart, Want, Output, Leave, End}
+use Rattle.cpu.specs.declared.stage.Stage.TheVariants.{Reach, Take, Judge, Touch, Input, Depart, Want, Quit, Send, Output, Leave, End}
 use Rattle.cpu.specs.declared.stage.Under.{Under}
 use Rattle.cpu.specs.declared.stage.StageStep.{StageStep}
 use Rattle.cpu.specs.declared.task.Case.{Case}
@@ -33,6 +32,8 @@ use Rattle.cpu.specs.declared.task.Gate.{Gate}
 use Rattle.cpu.specs.declared.task.Gate.TheVariants.{Inside}
 use Rattle.cpu.specs.Outputs.{DoorAt, OutputIs, OutputServes, output_rest}
 use Rattle.cpu.specs.Results.{EndsAs, granted_of, result_of, with_does}
+use Rattle.cpu.specs.Sends.{SendIs, SendRest, sends}
+use Rattle.cpu.specs.declared.interrupt.Sending.{Sending}
 use Rattle.cpu.specs.Tasks.{GateAt, CaseAt, TaskIs, TaskServes, gate_rest, task_rest, taking_rest, case_rest}
 use Rattle.cpu.specs.Turns.{phase_at}
 
@@ -49,6 +50,11 @@ CaseRest from case tree = (does : List Cached) × (tree ≡ case_rest from does 
 abbrev pub departs : Origin → Asked → Tree Outcome
 departs from asked = Asks Leaving (λ _. asks_for from asked)
 
+-- the access is left, and then the posts come
+pub record QuitRest (from : Origin) (s : Sending) (tree : Tree Outcome) : Type 0 where
+  pub is : SendIs from.vps s
+  pub rest : tree ≡ Asks Leaving (λ _. sends from s)
+
 -- what is left of an attempt of this operation at a stage
 abbrev pub StageRest : Origin → Op → Stage → Tree Outcome → Type 0
 StageRest from op (Reach path) tree = (t : Tree Decision) × Rest path.aim path.place t × (tree ≡ then_ t (leaves from path.aim.gva.0 (granted_of from.state op)))
@@ -58,6 +64,8 @@ StageRest from op (Touch gate task) tree = (does : List Cached) × (tree ≡ gat
 StageRest from op (Input input) tree = InputRest from input tree
 StageRest from op (Depart asked) tree = tree ≡ departs from asked
 StageRest from op (Want asked) tree = tree ≡ asks_for from asked
+StageRest from op (Quit sending) tree = QuitRest from sending tree
+StageRest from op (Send sending) tree = SendRest from sending tree
 StageRest from op (Output output) tree = tree ≡ output_rest from op output
 StageRest from op (Leave decided) tree = LeavesAs tree (result_of from op decided)
 StageRest from op (End decided) tree = EndsAs tree (result_of from op decided)
@@ -71,6 +79,8 @@ StageIs pages number (Touch gate task) = TaskIs pages number task
 StageIs pages number (Input input) = InputIs pages input
 StageIs pages number (Depart asked) = AskedIs pages asked
 StageIs pages number (Want asked) = AskedIs pages asked
+StageIs pages number (Quit sending) = Unit {0}
+StageIs pages number (Send sending) = Unit {0}
 StageIs pages number (Output output) = OutputIs pages number output
 StageIs pages number (Leave decided) = Unit {0}
 StageIs pages number (End decided) = Unit {0}
@@ -94,6 +104,8 @@ StageAt (Touch gate task) phase = GateAt gate phase
 StageAt (Input input) phase = SpotAt input.spot phase
 StageAt (Depart asked) phase = IsIn phase
 StageAt (Want asked) phase = phase ≡ Idle
+StageAt (Quit sending) phase = IsIn phase
+StageAt (Send sending) phase = phase ≡ Idle
 StageAt (Output output) phase = DoorAt output.door phase
 StageAt (Leave decided) phase = IsIn phase
 StageAt (End decided) phase = phase ≡ Idle
@@ -116,10 +128,11 @@ is_going (Want asked) = false
 is_going (End decided) = false
 is_going _ = true
 
--- a poll takes its words, or a hypercall asks the partition at once or writes its output
+-- a poll takes its words, or a hypercall asks the partition or posts at once or writes its output
 abbrev pub IsTaking : Stage → Type 0
 IsTaking (Take taken) = Unit {0}
 IsTaking (Want asked) = Unit {0}
+IsTaking (Send sending) = Unit {0}
 IsTaking (Output output) = Unit {0}
 IsTaking _ = ⊥
 
@@ -132,6 +145,8 @@ StageServes (Touch gate task) seat = TaskServes gate task seat
 StageServes (Input input) seat = InputServes input seat
 StageServes (Depart asked) seat = IsIn seat.phase × (seat.vp < seat.limits.vps)
 StageServes (Want asked) seat = ⊥
+StageServes (Quit sending) seat = IsIn seat.phase × (seat.vp < seat.limits.vps)
+StageServes (Send sending) seat = (seat.phase ≡ Idle) × SendIs seat.limits.vps sending × (seat.vp < seat.limits.vps)
 StageServes (Output output) seat = OutputServes output seat
 StageServes (Leave decided) seat = IsIn seat.phase × (seat.vp < seat.limits.vps)
 StageServes (End decided) seat = ⊥
@@ -206,11 +221,6 @@ pub record IsUnderWay (from : Origin) (u : Under) (heard : Option Heard) (seen :
 abbrev pub IsWant : Stage → Type 0
 IsWant (Want asked) = Unit {0}
 IsWant _ = ⊥
-
--- it asks for this call, with these words in place of an input in memory
-abbrev pub WantsCall : Stage → ℕ → List ℕ → Type 0
-WantsCall (Want asked) code words = (start count : ℕ) → part_call asked ≡ call_of code words [] start count
-WantsCall _ code words = ⊥
 
 abbrev pub IsWanting : Option Under → Type 0
 IsWanting None = ⊥

@@ -1,5 +1,5 @@
 // The first stage of an attempt.
-ghost use Rattle.std.specs.Prelude.{◌≡◌, ◌≢◌, ◌<◌, ℕ, List, length, Option, None, Some, IfSome, if◌then◌else◌, slice_get};
+ghost use Rattle.std.specs.Prelude.{◌≡◌, ◌≢◌, ◌<◌, ◌≤◌, ℕ, List, length, Option, None, Some, IfSome, if◌then◌else◌, slice_get};
 ghost use Rattle.vsm_core.specs.Attempt.{attempt, by_access, call_tree, return_tree, eom_tree, goal_of as goal_of_lem};
 ghost use Rattle.vsm_core.specs.Outcomes.{Origin};
 ghost use Rattle.vsm_core.specs.State.{rip_of};
@@ -179,6 +179,7 @@ pub fn begin(
     controllers: &Controllers,
     op: Op,
 ) -> Stage
+    requires { limits.vps ≤ 8 }
     ensures rest { StageRest (origin_at limits vp.0 bank.now levels.now controllers.now) op result (attempt (origin_at limits vp.0 bank.now levels.now controllers.now) op) }
     ensures is { StageIs limits.pages vp.0 result }
     ensures idle { StageAt result Idle }
@@ -244,6 +245,7 @@ pub fn begun(
     under: Option<Under>,
     ops: &[Op],
 ) -> Under
+    requires vps { limits.vps ≤ 8 }
     requires rip { rip_of (state_of bank.now levels.now) < length ops.now }
     requires same { IfSome (op_of under) (λ op. slice_get ops.now (rip_of (state_of bank.now levels.now)) ≡ Some op) }
     ensures means { (heard : Option Heard) (seen : List Event) (part first : ℕ) → Means (origin_at limits vp.0 bank.now levels.now controllers.now) under heard seen part first → IsUnderWay (origin_at limits vp.0 bank.now levels.now controllers.now) result heard seen part first }

@@ -18,6 +18,7 @@ use crate::decided::Decided;
 use crate::input::{Asked, Input, PageSlice, Site};
 use crate::plans::put_words;
 use crate::reading::slice_past;
+use crate::sending::interrupting_inside;
 use crate::slices::decided_by;
 use crate::stage::Stage;
 use crate::task::{Case, Gate, Task};
@@ -197,7 +198,8 @@ pub fn given(
     controllers: &Controllers,
     input: Input,
 ) -> Stage
-    requires { InputRead limits.pages input }
+    requires input { InputRead limits.pages input }
+    requires vps { limits.vps ≤ 8 }
     ensures rest { (op : Op) (tree : Tree Outcome) → StageRest (origin_at limits vp.0 bank.now levels.now controllers.now) op (Stage.Judge (Case.Read input)) tree → StageRest (origin_at limits vp.0 bank.now levels.now controllers.now) op result tree }
     ensures is { StageIs limits.pages vp.0 result }
     ensures at { (phase : Phase) → StageAt (Stage.Judge (Case.Read input)) phase → StageAt result phase }
@@ -205,6 +207,9 @@ pub fn given(
     match input.call {
         Call::FlushVirtualAddressSpace => departing(Asked::Flush { total: input.count }),
         Call::FlushVirtualAddressList => departing(Asked::Flush { total: input.count }),
+        Call::SendSyntheticClusterIpi => {
+            interrupting_inside(limits.vps, input.level, &pair_of(&input.words))
+        }
         Call::ModifyVtlProtectionMask => departing(Asked::Modify(page_slice(&input))),
         Call::EnablePartitionVtl => departing(Asked::EnablePartition(pair_of(&input.words))),
         Call::EnableVpVtl => departing(Asked::EnableVp(thirty_of(&input.words))),
@@ -215,5 +220,6 @@ pub fn given(
             getting(limits.vps, vp, bank, levels, input, site)
         }
         Call::SetVpRegisters => setting(limits.vps, vp, input),
+        Call::StartVirtualProcessor => departing(Asked::Start(thirty_of(&input.words))),
     }
 }

@@ -90,7 +90,7 @@ fn comes_to(alloc: Global, partition: u128, status: u64) -> Result<(), Fail> {
 #[test]
 fn a_call_is_refused_before_its_first_step(rt: HostRuntime) -> Result<(), Fail> {
     let alloc = rt.alloc();
-    is_refused(alloc, 0x99, 0x1001, 0x02)?;
+    is_refused(alloc, 0x98, 0x1001, 0x02)?;
     is_refused(alloc, ENABLE_VP | 1 << 16, 0x1001, 0x03)?;
     is_refused(alloc, ENABLE_VP, 0x1001, 0x04)?;
     is_refused(alloc, ENABLE_VP, 0x2F18, 0x03)?;

@@ -1,21 +1,23 @@
 // The beginning of a hypercall, what it asks of the partition, and what the reply does.
-ghost use Rattle.std.specs.Prelude.{◌≡◌, ◌^◌, ◌/◌, ◌<◌, ◌∷◌, [], ℕ, Some, true, false};
-ghost use Rattle.vsm_core.specs.Attempt.{hypercall_tree};
+ghost use Rattle.std.specs.Prelude.{◌≡◌, ◌^◌, ◌/◌, ◌<◌, ◌≤◌, ◌∷◌, [], ℕ, Some, true, false};
+ghost use Rattle.vsm_core.specs.Attempt.{by_registers, hypercall_tree};
 ghost use Rattle.vsm_core.specs.Contexts.{with_context};
 ghost use Rattle.vsm_core.specs.Controllers.{Controllers as Contents};
-ghost use Rattle.vsm_core.specs.Hypercalls.{call_of, has_output, own_context as own_context_lem, with_result};
+ghost use Rattle.vsm_core.specs.Hypercalls.{has_output, own_context as own_context_lem, with_result};
 ghost use Rattle.vsm_core.specs.Outcomes.{Origin};
 ghost use Rattle.vsm_core.specs.declared.event.Phase.TheVariants.{Idle};
+ghost use Rattle.vsm_core.specs.declared.operation.Op.{Op};
 ghost use Rattle.vsm_core.specs.declared.operation.Op.TheVariants.{Hypercall};
 ghost use Rattle.vtl_state.specs.States.{state_of};
 ghost use Rattle.hyper_abi.specs.Told.{row_for};
 ghost use Rattle.cpu.specs.Held.{origin_with};
 ghost use Rattle.cpu.specs.Inputs.{part_call, request_for};
 ghost use Rattle.cpu.specs.Admitted.{opening_input, opening_output};
-ghost use Rattle.cpu.specs.Stages.{StageRest, StageIs, StageAt, WantsCall};
+ghost use Rattle.cpu.specs.Stages.{StageRest, StageIs, StageAt};
 
 use crate::decided::Decided;
 use crate::input::{Asked, Input, PageSlice, Site, Spot};
+use crate::sending::interrupting;
 use crate::stage::Stage;
 use arrayvec::ArrayVec;
 use hyper_abi::{Admission, Call, ResultValue, admit};
@@ -25,19 +27,26 @@ use vsm_base::{HvStatus, Limits, Name, VpIndex, Vtl};
 use vsm_core::{GuestFault, PartCall, Reply, Request, What};
 use vtl_state::{Levels, go_on, privilege_of, put_legal, word_of};
 
-/// What a fast call asks for.
-fn fast_asked(call: Call, first: u64, second: u64) -> Asked
-    requires { (row_for call).may_be_fast ≡ true }
-    ensures { (start count : ℕ) → part_call result ≡ call_of (row_for call).code (first ∷ second ∷ []) [] start count }
+/// The first stage of a fast call.
+fn fast_stage(vps: u8, caller: Vtl, call: Call, first: u64, second: u64) -> Stage
+    requires few { vps ≤ 8 }
+    requires may_be_fast { (row_for call).may_be_fast ≡ true }
+    ensures rest { (from : Origin) (op : Op) → vps ≡ from.vps → from.state.active ≡ caller → StageRest from op result (by_registers from (row_for call).code (first ∷ second ∷ [])) }
+    ensures is { (pages number : ℕ) → StageIs pages number result }
+    ensures idle { StageAt result Idle }
 {
     match call {
         Call::FlushVirtualAddressSpace => unreachable!(),
         Call::FlushVirtualAddressList => unreachable!(),
+        Call::SendSyntheticClusterIpi => interrupting(vps, caller, &[first, second]),
         Call::ModifyVtlProtectionMask => unreachable!(),
-        Call::EnablePartitionVtl => Asked::EnablePartition([first, second]),
+        Call::EnablePartitionVtl => Stage::Want {
+            asked: Asked::EnablePartition([first, second]),
+        },
         Call::EnableVpVtl => unreachable!(),
         Call::GetVpRegisters => unreachable!(),
         Call::SetVpRegisters => unreachable!(),
+        Call::StartVirtualProcessor => unreachable!(),
     }
 }
 
@@ -49,21 +58,26 @@ fn output_of(call: Call, address: u64) -> Option<Site>
     match call {
         Call::FlushVirtualAddressSpace => None,
         Call::FlushVirtualAddressList => None,
+        Call::SendSyntheticClusterIpi => None,
         Call::ModifyVtlProtectionMask => None,
         Call::EnablePartitionVtl => None,
         Call::EnableVpVtl => None,
         Call::GetVpRegisters => Some(Site::at(address)),
         Call::SetVpRegisters => None,
+        Call::StartVirtualProcessor => None,
     }
 }
 
 /// The first stage of a call that isn't refused at once, whose input and output have these addresses.
-fn admitted(levels: &Levels, address: u64, output: u64, admission: Admission) -> Stage
+fn admitted(vps: u8, levels: &Levels, address: u64, output: u64, admission: Admission) -> Stage
+    requires few { vps ≤ 8 }
     requires page { admission.fast ≡ false → address / 4096 < 2 ^ 32 }
     requires output { admission.fast ≡ false → has_output (row_for admission.call) ≡ true → output / 4096 < 2 ^ 32 }
     requires may_be_fast { admission.fast ≡ true → (row_for admission.call).may_be_fast ≡ true }
-    ensures fast { admission.fast ≡ true → WantsCall result (row_for admission.call).code (address ∷ output ∷ []) }
+    ensures fast { (from : Origin) (op : Op) → admission.fast ≡ true → vps ≡ from.vps → from.state.active ≡ levels.now.active → StageRest from op result (by_registers from (row_for admission.call).code (address ∷ output ∷ [])) }
+    ensures fast_is { (pages number : ℕ) → admission.fast ≡ true → StageIs pages number result }
     ensures memory { admission.fast ≡ false → result ≡ Stage.Input (opening_input admission levels.now.active address output) }
+    ensures idle { StageAt result Idle }
 {
     let Admission {
         call,
@@ -72,9 +86,7 @@ fn admitted(levels: &Levels, address: u64, output: u64, admission: Admission) ->
         start,
     } = admission;
     if fast {
-        return Stage::Want {
-            asked: fast_asked(call, address, output),
-        };
+        return fast_stage(vps, levels.active(), call, address, output);
     }
     Stage::Input {
         input: Input {
@@ -93,6 +105,7 @@ fn admitted(levels: &Levels, address: u64, output: u64, admission: Admission) ->
 
 /// The first stage of a hypercall: it is made at privilege level 0, and what refuses it at once refuses it here.
 pub fn hypercalling(limits: Limits, bank: &Bank, levels: &Levels) -> Stage
+    requires { limits.vps ≤ 8 }
     ensures rest { (number : ℕ) (held : Contents) → StageRest (origin_with limits number bank.now levels.now held) Hypercall result (hypercall_tree (origin_with limits number bank.now levels.now held)) }
     ensures is { (number : ℕ) → StageIs limits.pages number result }
     ensures idle { StageAt result Idle }
@@ -106,7 +119,7 @@ pub fn hypercalling(limits: Limits, bank: &Bank, levels: &Levels) -> Stage
     let address = word_of(bank, levels, Name::Rdx);
     let output = word_of(bank, levels, Name::R8);
     match admit(limits.pages, value, address, output) {
-        Ok(admission) => admitted(levels, address, output, admission),
+        Ok(admission) => admitted(limits.vps, levels, address, output, admission),
         Err(status) => Stage::End {
             decided: Decided::Replied(ResultValue { status, done: 0 }.bits(), None),
         },
@@ -134,6 +147,7 @@ pub fn request(vp: VpIndex, levels: &Levels, asked: &Asked) -> Request
     let call = match asked {
         Asked::EnablePartition(words) => PartCall::EnablePartition(*words),
         Asked::EnableVp(words) => PartCall::EnableVp(*words),
+        Asked::Start(words) => PartCall::Start(*words),
         Asked::Modify(slice) => modify(slice),
         Asked::Flush { total } => PartCall::Flush { total: *total },
         Asked::Write { value } => PartCall::WriteConfig(*value),

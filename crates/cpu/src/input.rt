@@ -75,6 +75,8 @@ pub enum Asked {
     EnablePartition([u64; 2]),
     /// HvCallEnableVpVtl, with the words of its input.
     EnableVp([u64; 30]),
+    /// HvCallStartVirtualProcessor, with the words of its input.
+    Start([u64; 30]),
     /// HvCallModifyVtlProtectionMask, with its next slice.
     Modify(PageSlice),
     /// A flush of all translations by a call that has so many elements.

@@ -1,5 +1,5 @@
 // How an attempt goes on where that depends on the state of its processor.
-ghost use Rattle.std.specs.Prelude.{◌≡◌, ℕ};
+ghost use Rattle.std.specs.Prelude.{◌≡◌, ◌≤◌, ℕ};
 ghost use Rattle.vsm_core.specs.Attempt.{is_wanted};
 ghost use Rattle.vsm_core.specs.Controllers.{with_taken};
 ghost use Rattle.vsm_core.specs.Outcomes.{Outcome};
@@ -138,7 +138,8 @@ pub fn judged(
     controllers: &Controllers,
     stage: Stage,
 ) -> Stage
-    requires { StageMay limits.pages vp.0 stage }
+    requires may { StageMay limits.pages vp.0 stage }
+    requires vps { limits.vps ≤ 8 }
     ensures rest { (op : Op) (tree : Tree Outcome) → StageRest (origin_at limits vp.0 bank.now levels.now controllers.now) op stage tree → StageRest (origin_at limits vp.0 bank.now levels.now controllers.now) op result tree }
     ensures is { StageIs limits.pages vp.0 result }
     ensures at { (phase : Phase) → StageAt stage phase → StageAt result phase }

@@ -10,6 +10,7 @@ mod given;
 mod hypercalls;
 mod input;
 mod intercepts;
+mod interrupt;
 mod interrupts;
 mod judging;
 mod log;
@@ -22,6 +23,7 @@ mod putting;
 mod reading;
 mod registers;
 mod replying;
+mod sending;
 mod slices;
 mod stage;
 mod starts;
@@ -39,6 +41,8 @@ mod eom_tests;
 mod fed;
 #[cfg(test)]
 mod hypercall_tests;
+#[cfg(test)]
+mod interrupt_tests;
 #[cfg(test)]
 mod left;
 #[cfg(test)]

@@ -83,7 +83,8 @@ fn operations<'a>(program: &'a Program, levels: &Levels) -> &'a [Op]
 impl Cpu {
     /// A processor before its first turn: level 0 is active, its program stands at its first operation, and all
     /// registers are as at an opening. It takes room for as many marks as the budget says, which is 1 to 10,000, for 64
-    /// events each and for as many notes that wait; its turns take no memory. Its number is below the count of processors.
+    /// events each and for as many notes that wait; its turns take no memory. Its number is below the count of processors,
+    /// of which there are at most eight.
     ///
     /// # Errors
     /// `Memory` where there is no memory for that room, and for no other cause.
@@ -96,6 +97,7 @@ impl Cpu {
         program: &Program,
     ) -> Result<Cpu, Memory>
         requires vp { vp.0 < limits.now.vps }
+        requires vps_few { limits.now.vps ≤ 8 }
         requires budget_some { 1 ≤ limits.now.budget }
         requires budget_few { limits.now.budget ≤ 10000 }
         ensures { IfOk result (λ cpu. cpu ≡ opening vp.0 limits.now started (length program.now.zero) (length program.now.one)) }
@@ -515,6 +517,13 @@ impl Cpu {
         ensures looked { self.now.started ≡ false → self.now.owes ≡ true → length self.now.seen ≡ 1 }
     {
         self.vp
+    }
+
+    /// Whether the processor has started.
+    pub fn started(&self) -> bool
+        ensures { result ≡ self.now.started }
+    {
+        self.started
     }
 
     /// Why the processor runs no more, if it doesn't.

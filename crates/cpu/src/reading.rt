@@ -41,11 +41,13 @@ pub fn header_words(call: Call) -> u8
     match call {
         Call::FlushVirtualAddressSpace => 3,
         Call::FlushVirtualAddressList => 3,
+        Call::SendSyntheticClusterIpi => 2,
         Call::ModifyVtlProtectionMask => 2,
         Call::EnablePartitionVtl => 2,
         Call::EnableVpVtl => 30,
         Call::GetVpRegisters => 2,
         Call::SetVpRegisters => 2,
+        Call::StartVirtualProcessor => 30,
     }
 }
 
@@ -57,11 +59,13 @@ fn slice_first(call: Call, start: u16) -> u16
     match call {
         Call::FlushVirtualAddressSpace => 0,
         Call::FlushVirtualAddressList => 0,
+        Call::SendSyntheticClusterIpi => 0,
         Call::ModifyVtlProtectionMask => start,
         Call::EnablePartitionVtl => 0,
         Call::EnableVpVtl => 0,
         Call::GetVpRegisters => 4 * start / 8,
         Call::SetVpRegisters => 4 * start,
+        Call::StartVirtualProcessor => 0,
     }
 }
 
@@ -75,6 +79,7 @@ fn slice_words(call: Call, start: u16, count: u16) -> u8
     match call {
         Call::FlushVirtualAddressSpace => 0,
         Call::FlushVirtualAddressList => 0,
+        Call::SendSyntheticClusterIpi => 0,
         Call::ModifyVtlProtectionMask => (slice_past(start, count) - start) as u8,
         Call::EnablePartitionVtl => 0,
         Call::EnableVpVtl => 0,
@@ -86,6 +91,7 @@ fn slice_words(call: Call, start: u16, count: u16) -> u8
             let past = slice_past(start, count);
             (4 * (past - start)) as u8
         }
+        Call::StartVirtualProcessor => 0,
     }
 }
 

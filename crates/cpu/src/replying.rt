@@ -107,6 +107,7 @@ pub fn replied_stage(vp: VpIndex, levels: &Levels, stage: &Stage, reply: &Reply)
     match asked {
         Asked::EnablePartition(_) => served(reply),
         Asked::EnableVp(_) => served(reply),
+        Asked::Start(_) => served(reply),
         Asked::Modify(slice) => slice_served(slice.total, reply),
         Asked::Flush { .. } => served(reply),
         Asked::Write { .. } => served(reply),

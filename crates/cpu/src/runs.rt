@@ -14,7 +14,7 @@ use vsm_core::{Ending, Mark, Op, PartCall, Phase, Program, Reply, Request, What}
 use vtl_state::Levels;
 
 pub const LIMITS: Limits = Limits {
-    vps: 1,
+    vps: 4,
     pages: 2,
     budget: 10,
 };

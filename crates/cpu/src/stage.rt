@@ -4,6 +4,7 @@ ghost use Rattle.cpu.specs.Stages.{is_going as is_going_lem};
 
 use crate::decided::Decided;
 use crate::input::{Asked, Input};
+use crate::interrupt::Sending;
 use crate::output::Output;
 use crate::task::{Case, Gate, Taken, Task};
 use access_path::Path;
@@ -26,6 +27,10 @@ pub enum Stage {
     Depart { asked: Asked },
     /// A hypercall asks this of the partition; no step is made from here, and it goes on by the reply alone.
     Want { asked: Asked },
+    /// A hypercall posts an interrupt to processors, once the access to its input is left, which comes next.
+    Quit { sending: Sending },
+    /// A hypercall posts an interrupt to processors; the next post comes next.
+    Send { sending: Sending },
     /// A hypercall writes its output in an access of its own.
     Output { output: Output },
     /// It was decided, and the leave of its access comes next.

@@ -13,6 +13,7 @@ use crate::decided::{Decided, Refusal};
 use crate::input::Asked;
 use crate::putting::put_output;
 use crate::reading::read_input;
+use crate::sending::{quit, send};
 use crate::stage::{Stage, StageStep};
 use crate::taking::take;
 use crate::task::Case;
@@ -99,6 +100,8 @@ pub fn step<P: Port>(stage: Stage, port: &mut P) -> StageStep
         Stage::Touch { gate, task } => touch(gate, task, port),
         Stage::Input { input } => read_input(input, port),
         Stage::Depart { asked } => depart(asked, port),
+        Stage::Quit { sending } => quit(sending, port),
+        Stage::Send { sending } => send(sending, port),
         Stage::Output { output } => put_output(output, port),
         Stage::Leave { decided } => leave(decided, port),
         Stage::Judge { .. } => unreachable!(),

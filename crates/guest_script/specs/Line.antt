@@ -66,10 +66,10 @@ budget_line r ws = do
   end ← no_more n.1
   Ok (record r { stage = stages.Started; limits = record r.limits { budget = n.0 } })
 
--- started N, where N is the number of processors
+-- started N, where the first N processors run from the beginning
 unfoldable pub started_line : Reading → Words → Result Reading Why
 started_line r ws = do
-  n ← number r.limits.vps (r.limits.vps + 1) ws
+  n ← number 1 (r.limits.vps + 1) ws
   end ← no_more n.1
   Ok (record r { stage = stages.Memory; started = n.0 })
 

@@ -20,7 +20,8 @@ pub record IsWithin (s : Script) : Type 0 where
   pub pages_few : s.limits.pages ≤ 256
   pub budget_some : 1 ≤ s.limits.budget
   pub budget_few : s.limits.budget ≤ 10000
-  pub started : s.started ≡ s.limits.vps
+  pub started_some : 1 ≤ s.started
+  pub started_few : s.started ≤ s.limits.vps
   pub programs : length s.programs ≡ s.limits.vps
   pub turns_few : all_turns s.schedule ≤ 100000
   pub entries : IsTrue (list_all (all_known s.limits.vps) s.schedule)

@@ -177,8 +177,7 @@ impl Reading {
         ensures said { Becomes self.new result (started_line self.old (words_of rest.now)) }
         ensures sound { IsSound self.new }
     {
-        let vps = u128::from(self.limits.vps);
-        let (started, rest) = number(rest, vps, vps + 1)?;
+        let (started, rest) = number(rest, 1, u128::from(self.limits.vps) + 1)?;
         no_more(rest)?;
         self.started = started as u8;
         self.stage = Stage::Memory;

@@ -16,7 +16,7 @@ pub struct Turns {
 #[derive(Debug, Drop)]
 pub struct Script {
     pub limits: Limits,
-    /// How many processors run from the beginning: the first so many.
+    /// How many processors run from the beginning: the first so many, 1 to the number of processors.
     pub started: u8,
     /// The pages whose mask is given; any other has all rights.
     pub masks: Items<(Page, Mask)>,

@@ -184,6 +184,31 @@ fn operations_on_vectors_and_messages_are_read_into_a_program(rt: HostRuntime) -
     Ok(())
 }
 
+// Three processors, of which so many run from the beginning.
+fn with_started(alloc: Global, started: &[u8]) -> Result<Vec<u8>, AllocError> {
+    let mut text = Vec::new(alloc);
+    text.extend_from_slice(b"vsm 1\nvps 3\npages 1\nbudget 1\nstarted ")?;
+    text.extend_from_slice(started)?;
+    text.extend_from_slice(b"\nschedule 0 1 2\nend\n")?;
+    Ok(text)
+}
+
+#[test]
+fn one_to_all_processors_run_from_the_beginning(rt: HostRuntime) -> Result<(), Fail> {
+    let numbers: [(&[u8], u8); 3] = [(b"1", 1), (b"0x02", 2), (b"3", 3)];
+    for (number, started) in numbers {
+        let script = read(rt.alloc(), &with_started(rt.alloc(), number)?)?;
+        assert_eq!(rt; script.started, started);
+        assert_eq!(rt; script.limits.vps, 3);
+        assert_eq!(rt; script.programs.len(), 3);
+    }
+    let refused: [&[u8]; 4] = [b"0", b"4", b"257", b"1 1"];
+    for number in refused {
+        assert!(rt; is_refused(rt.alloc(), &with_started(rt.alloc(), number)?));
+    }
+    Ok(())
+}
+
 #[test]
 fn eight_processors_have_each_its_program(rt: HostRuntime) -> Result<(), Fail> {
     let text: &[u8] = b"vsm 1\nvps 8\npages 1\nbudget 1\nstarted 8\n\
@@ -327,7 +352,7 @@ fn an_operation_is_refused_for_each_cause(rt: HostRuntime) -> Result<(), Fail> {
 
 #[test]
 fn a_script_is_refused_before_its_memory(rt: HostRuntime) -> Result<(), Fail> {
-    let scripts: [&[u8]; 17] = [
+    let scripts: [&[u8]; 16] = [
         b"",
         b"\n",
         b"vsm 1",
@@ -343,7 +368,6 @@ fn a_script_is_refused_before_its_memory(rt: HostRuntime) -> Result<(), Fail> {
         b"vsm 1\nvps 1\npages 1\nbudget 10001\n",
         b"vsm 1\nvps 1\npages 1\nbudget 1\nstarted 2\nend\n",
         b"vsm 1\nvps 2\npages 1\nbudget 1\nstarted 0\nend\n",
-        b"vsm 1\nvps 2\npages 1\nbudget 1\nstarted 1\nend\n",
         b"vsm 1\nvps 2\npages 1\nbudget 1\nstarted 3\nend\n",
     ];
     for bytes in scripts {

@@ -5,7 +5,7 @@ use Rattle.vsm_core.specs.Calls.{Row, Control, first_failed, form_checks, checks
 use Rattle.vsm_core.specs.Hypercalls.{input_refusal, place_checks}
 use Rattle.vsm_core.specs.Reps.{slice_past, first_word, words_between}
 use Rattle.hyper_abi.specs.declared.form.Call.{Call}
-use Rattle.hyper_abi.specs.declared.form.Call.TheVariants.{FlushVirtualAddressSpace, FlushVirtualAddressList, ModifyVtlProtectionMask, EnablePartitionVtl, EnableVpVtl, GetVpRegisters, SetVpRegisters}
+use Rattle.hyper_abi.specs.declared.form.Call.TheVariants.{FlushVirtualAddressSpace, FlushVirtualAddressList, SendSyntheticClusterIpi, ModifyVtlProtectionMask, EnablePartitionVtl, EnableVpVtl, GetVpRegisters, SetVpRegisters, StartVirtualProcessor}
 use Rattle.hyper_abi.specs.Told.{row_for}
 use Rattle.vsm_core.proofs.Checks.{none-fails, first-some, first-none}
 
@@ -64,6 +64,7 @@ past-behind start count h = grind arith
 pub slice-within : (call : Call) (offset start count : ℕ) → ((row_for call).is_rep ≡ true → start < count) → offset + (row_for call).header + (row_for call).element * count ≤ 4096 → offset / 8 + (row_for call).header / 8 + first_word (row_for call).read start + words_between (row_for call).read start (slice_past start count) ≤ 512
 slice-within FlushVirtualAddressSpace offset start count below h = omega arith
 slice-within FlushVirtualAddressList offset start count below h = omega arith
+slice-within SendSyntheticClusterIpi offset start count below h = omega arith
 slice-within ModifyVtlProtectionMask offset start count below h =
     let start-below : start < count = below refl in
     let within = past-within start count (omega arith) in
@@ -81,3 +82,4 @@ slice-within SetVpRegisters offset start count below h =
     let within = past-within start count (omega arith) in
     let behind = past-behind start count (omega arith) in
     omega arith
+slice-within StartVirtualProcessor offset start count below h = omega arith

@@ -29,6 +29,8 @@ pub enum Call {
     FlushVirtualAddressSpace,
     /// HvCallFlushVirtualAddressList.
     FlushVirtualAddressList,
+    /// HvCallSendSyntheticClusterIpi.
+    SendSyntheticClusterIpi,
     /// HvCallModifyVtlProtectionMask.
     ModifyVtlProtectionMask,
     /// HvCallEnablePartitionVtl.
@@ -39,13 +41,16 @@ pub enum Call {
     GetVpRegisters,
     /// HvCallSetVpRegisters.
     SetVpRegisters,
+    /// HvCallStartVirtualProcessor.
+    StartVirtualProcessor,
 }
 
 impl Call {
     /// The call of this code: 0x0002 is HvCallFlushVirtualAddressSpace and 0x0003 is HvCallFlushVirtualAddressList (TLFS,
-    /// Virtual MMU), 0x000C is HvCallModifyVtlProtectionMask, 0x000D is HvCallEnablePartitionVtl and 0x000F is
-    /// HvCallEnableVpVtl (TLFS, Virtual Secure Mode), 0x0050 is HvCallGetVpRegisters and 0x0051 is HvCallSetVpRegisters
-    /// (TLFS, Virtual Processors). That there are no other calls is this project's own.
+    /// Virtual MMU), 0x000B is HvCallSendSyntheticClusterIpi (TLFS, Virtual Interrupt Control), 0x000C is
+    /// HvCallModifyVtlProtectionMask, 0x000D is HvCallEnablePartitionVtl and 0x000F is HvCallEnableVpVtl (TLFS, Virtual
+    /// Secure Mode), 0x0050 is HvCallGetVpRegisters, 0x0051 is HvCallSetVpRegisters and 0x0099 is
+    /// HvCallStartVirtualProcessor (TLFS, Virtual Processors). That there are no other calls is this project's own.
     ///
     /// `None` exactly where no call has the code.
     #[tactic(auto, unfolding(vsm_core::specs::Calls::row_of, vsm_core::specs::Calls::rows))]
@@ -55,11 +60,13 @@ impl Call {
         match code {
             0x0002 => Some(Call::FlushVirtualAddressSpace),
             0x0003 => Some(Call::FlushVirtualAddressList),
+            0x000B => Some(Call::SendSyntheticClusterIpi),
             0x000C => Some(Call::ModifyVtlProtectionMask),
             0x000D => Some(Call::EnablePartitionVtl),
             0x000F => Some(Call::EnableVpVtl),
             0x0050 => Some(Call::GetVpRegisters),
             0x0051 => Some(Call::SetVpRegisters),
+            0x0099 => Some(Call::StartVirtualProcessor),
             _ => None,
         }
     }
@@ -85,6 +92,15 @@ impl Call {
                 fast: false,
                 header: 24,
                 element: 8,
+                read: 0,
+                output: 0,
+            },
+            Call::SendSyntheticClusterIpi => CallForm {
+                code: 0x000B,
+                rep: false,
+                fast: true,
+                header: 16,
+                element: 0,
                 read: 0,
                 output: 0,
             },
@@ -131,6 +147,15 @@ impl Call {
                 header: 16,
                 element: 32,
                 read: 32,
+                output: 0,
+            },
+            Call::StartVirtualProcessor => CallForm {
+                code: 0x0099,
+                rep: false,
+                fast: false,
+                header: 240,
+                element: 0,
+                read: 0,
                 output: 0,
             },
         }

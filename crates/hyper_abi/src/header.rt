@@ -1,9 +1,9 @@
 // The header of the calls for a processor.
 ghost use Rattle.std.specs.Prelude.{◌≡◌, ◌<◌, length};
 ghost use Rattle.vsm_core.specs.Calls.{first_failed};
-ghost use Rattle.vsm_core.specs.Partition.{is_other_partition, index_of, target_of, padding_of, named};
+ghost use Rattle.vsm_core.specs.Partition.{is_other_partition, index_of, byte_in, target_of, padding_in, padding_of, named};
 ghost use Rattle.vsm_core.specs.RegisterCalls.{register_checks};
-ghost use Rattle.vsm_core.specs.Targets.{names_level, is_byte_form, level_of, target_level, is_above};
+ghost use Rattle.vsm_core.specs.Targets.{names_level, is_byte_word, is_byte_form, level_of, level_meant, target_level, is_above};
 
 use vsm_base::{HvStatus, VpIndex, Vtl};
 
@@ -29,13 +29,27 @@ pub fn index_of(words: &[u64]) -> u32
     (words[1] % (1 << 32)) as u32
 }
 
+/// The byte by which a word names a level: its bits 39:32 (TLFS, HV_INPUT_VTL).
+fn byte_in(word: u64) -> u64
+    ensures { result ≡ byte_in word }
+{
+    word / (1 << 32) % (1 << 8)
+}
+
+/// What a word has behind that byte: its bits 63:40.
+fn padding_in(word: u64) -> u64
+    ensures { result ≡ padding_in word }
+{
+    word / (1 << 40)
+}
+
 /// The byte by which a call for a processor names a level: bits 39:32 of its second word (TLFS, HV_INPUT_VTL). The call
 /// must have two words at least.
 pub fn target_of(words: &[u64]) -> u64
     requires { 1 < length words.now }
     ensures { result ≡ target_of words.now }
 {
-    words[1] / (1 << 32) % (1 << 8)
+    byte_in(words[1])
 }
 
 /// What a call for a processor has behind that byte: bits 63:40 of its second word. The call must have two words at least.
@@ -43,7 +57,7 @@ pub fn padding_of(words: &[u64]) -> u64
     requires { 1 < length words.now }
     ensures { result ≡ padding_of words.now }
 {
-    words[1] / (1 << 40)
+    padding_in(words[1])
 }
 
 /// The number of the processor that an index names, where there is such a processor: 0xFFFF_FFFE names the caller.
@@ -64,14 +78,21 @@ fn names_level(byte: u64) -> bool
     byte / (1 << 4) % 2 == 1
 }
 
-/// Whether a call's input VTL byte names no level but 0 and 1, and no bit is set above bit 4 or behind the byte (TLFS,
-/// HV_INPUT_VTL).
+/// Whether the input VTL byte of a word that has one names no level but 0 and 1, and no bit is set above bit 4 or behind
+/// the byte (TLFS, HV_INPUT_VTL).
+pub fn is_byte_word(word: u64) -> bool
+    ensures { result ≡ is_byte_word word }
+{
+    let byte = byte_in(word);
+    let names_no_other = !names_level(byte) || byte % (1 << 4) < 2;
+    byte / (1 << 5) == 0 && names_no_other && padding_in(word) == 0
+}
+
+/// Whether the second word of a call, which has its input VTL byte, is such a word (TLFS, HV_INPUT_VTL).
 pub fn is_byte_form(words: &[u64; 2]) -> bool
     ensures { result ≡ is_byte_form words.now }
 {
-    let byte = target_of(words);
-    let names_no_other = !names_level(byte) || byte % (1 << 4) < 2;
-    byte / (1 << 5) == 0 && names_no_other && padding_of(words) == 0
+    is_byte_word(words[1])
 }
 
 fn level_of(number: u64) -> Vtl
@@ -80,23 +101,30 @@ fn level_of(number: u64) -> Vtl
     if number == 1 { Vtl::One } else { Vtl::Zero }
 }
 
-fn is_above(level: Vtl, other: Vtl) -> bool
+pub(crate) fn is_above(level: Vtl, other: Vtl) -> bool
     ensures { result ≡ is_above level other }
 {
     level == Vtl::One && other == Vtl::Zero
 }
 
-/// The level that a call of a caller of this level means, by its header: the one that it names, else the caller's own
-/// (TLFS, HV_INPUT_VTL).
-pub fn target_level(caller: Vtl, header: &[u64; 2]) -> Vtl
-    ensures { result ≡ target_level caller header.now }
+/// The level that a caller of this level means by a word that has an input VTL byte: the one that it names, else the
+/// caller's own (TLFS, HV_INPUT_VTL).
+pub fn level_meant(caller: Vtl, word: u64) -> Vtl
+    ensures { result ≡ level_meant caller word }
 {
-    let byte = target_of(header);
+    let byte = byte_in(word);
     if names_level(byte) {
         level_of(byte % (1 << 4))
     } else {
         caller
     }
+}
+
+/// The level that a call of a caller of this level means, by its header, whose second word has the input VTL byte.
+pub fn target_level(caller: Vtl, header: &[u64; 2]) -> Vtl
+    ensures { result ≡ target_level caller header.now }
+{
+    level_meant(caller, header[1])
 }
 
 /// Why a call that gets or sets registers is refused for its header, if it is: a caller of this level may name its own

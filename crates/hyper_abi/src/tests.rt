@@ -233,7 +233,7 @@ fn calls_of_protection_have_their_sizes(rt: HostRuntime) {
     assert_eq!(rt; form_of(0x0003), Some(list));
     assert_eq!(rt; form_of(0x000C), Some(modify));
     assert_eq!(rt; form_of(0x0004), None);
-    assert_eq!(rt; form_of(0x000B), None);
+    assert_eq!(rt; form_of(0x000A), None);
 }
 
 #[test]
@@ -621,4 +621,47 @@ fn elements_that_set_a_register_are_judged(rt: HostRuntime) {
         let refusal = set_refusal(caller, target, 1, &setting);
         assert_eq!(rt; refusal, status, "{first}");
     }
+}
+
+#[test]
+fn calls_of_other_processors_have_their_sizes(rt: HostRuntime) {
+    let send = CallForm {
+        code: 0x000B,
+        rep: false,
+        fast: true,
+        header: 16,
+        element: 0,
+        read: 0,
+        output: 0,
+    };
+    let start = CallForm {
+        code: 0x0099,
+        fast: false,
+        header: 240,
+        ..send
+    };
+    assert_eq!(rt; form_of(0x000B), Some(send));
+    assert_eq!(rt; form_of(0x0099), Some(start));
+    assert_eq!(rt; form_of(0x0098), None);
+    assert_eq!(rt; Control::read(0x1_000B), single(0x000B, true));
+    assert!(rt; is_refused(0x1_0099, HvStatus(0x0003)));
+    assert!(rt;
+        is_admitted(
+            0x000B,
+            0x1FF0,
+            1,
+            whole(Call::SendSyntheticClusterIpi, false)
+        )
+    );
+    assert!(rt; is_not_admitted(0x000B, 0x1FF8, 1, HvStatus(0x0003)));
+    assert!(rt;
+        is_admitted(
+            0x1_000B,
+            0x2FFF,
+            1,
+            whole(Call::SendSyntheticClusterIpi, true)
+        )
+    );
+    assert!(rt; is_admitted(0x0099, 0x1F10, 1, whole(Call::StartVirtualProcessor, false)));
+    assert!(rt; is_not_admitted(0x0099, 0x1F18, 1, HvStatus(0x0003)));
 }

@@ -1,4 +1,5 @@
 mod Asks
+mod Counted
 mod Firsts
 mod Opening
 mod Rounds

@@ -31,7 +31,7 @@ turn_of (e ∷ rest) reply = Moved
 -- the next entry was added, with its step
 pub record Adds (e : Entry) (rest : List Entry) (reply : Reply) (old : PartView) (before : Stand) (new : PartView) (after : Stand) (turn : PartTurn) : Type 0 where
   pub step : ServesIf before (step_of e) after
-  pub view : new ≡ record { state = old.state; journal = with_entry old.journal e; under = left rest reply }
+  pub view : new ≡ record { state = old.state; journal = with_entry old.journal e; under = left rest reply; ended = old.ended }
   pub answer : turn ≡ turn_of rest reply
 
 -- the next entry clears a processor, which was found busy
@@ -54,12 +54,13 @@ TurnsUnder (Some doing) old before new after turn = TurnsBy doing.rest doing.rep
 abbrev pub Turns : PartView → Stand → PartView → Stand → PartTurn → Type 0
 Turns old before new after turn = TurnsUnder old.under old before new after turn
 
--- the opening masks, the room for entries and the number of processors stay
+-- the opening masks, the room for entries, the number of processors and which of them count as ended stay
 pub record IsKept (old new : PartView) : Type 0 where
   pub opening : new.journal.opening ≡ old.journal.opening
   pub room : new.journal.room ≡ old.journal.room
   pub vps : length new.state.vps ≡ length old.state.vps
   pub pages : new.state.pages ≡ old.state.pages
+  pub ended : new.ended ≡ old.ended
 
 -- the steward has the partition's limits, and has turned the generation and cleared processors as often as the journal says
 pub record IsPaced (p : PartView) (stand : Stand) : Type 0 where

@@ -2,9 +2,9 @@
 ghost use Rattle.std.specs.Prelude.{◌≡◌, ◌<◌, None, length, drop};
 ghost use Rattle.vsm_core.specs.Calls.{first_failed};
 ghost use Rattle.vsm_core.specs.Contexts.{is_legal_context};
-ghost use Rattle.vsm_core.specs.Partition.{standing, low_target, above_low_target, index_of, named, someone_has_one, enable_partition_checks, enable_vp_checks};
+ghost use Rattle.vsm_core.specs.Partition.{standing, low_target, above_low_target, index_of, named, is_called, someone_has_one, enable_partition_checks, enable_vp_checks, start_checks};
 ghost use Rattle.vsm_core.specs.Protection.{modify_checks, page_refusal, config_checks};
-ghost use Rattle.vsm_core.specs.Status.{protects, default_mask};
+ghost use Rattle.vsm_core.specs.Status.{protects, default_mask, denies_startup};
 
 use hyper_abi::{index_of, is_byte_form, is_other_partition, named, padding_of, target_of};
 use register_file::Context;
@@ -14,6 +14,7 @@ use vsm_core::{PartitionState, Standing};
 const NOBODY: Standing = Standing {
     one: false,
     started: false,
+    start: None,
     waiting: None,
 };
 
@@ -25,6 +26,13 @@ pub fn standing(state: &PartitionState, vp: u32) -> Standing
         Some(standing) => *standing,
         None => NOBODY,
     }
+}
+
+/// Whether a processor is started, or its start was accepted.
+pub fn is_called(standing: &Standing) -> bool
+    ensures { result ≡ is_called standing.now }
+{
+    standing.started || standing.start.is_some()
 }
 
 /// Bits 7:0 of the second word.
@@ -109,7 +117,7 @@ pub fn enable_vp_refusal(
     if level == Vtl::Zero && someone_has_one(state) {
         return Some(HvStatus::ACCESS_DENIED);
     }
-    if vp != u32::from(by.0) && standing(state, vp).started {
+    if vp != u32::from(by.0) && is_called(&standing(state, vp)) {
         return Some(HvStatus::INVALID_VP_STATE);
     }
     if !is_legal_context(&context_of(words)) {
@@ -130,6 +138,49 @@ pub fn default_mask(config: u64) -> u32
     ensures { result ≡ default_mask config }
 {
     (config / 2 % (1 << 4)) as u32
+}
+
+/// Whether a configuration of the partition denies level 0 to start processors: bit 6.
+fn denies_startup(config: u64) -> bool
+    ensures { result ≡ denies_startup config }
+{
+    config / (1 << 6) % 2 == 1
+}
+
+/// Why the call that starts a processor is refused, if it is.
+pub fn start_refusal(
+    state: &PartitionState,
+    by: VpIndex,
+    level: Vtl,
+    words: &[u64; 30],
+) -> Option<HvStatus>
+    ensures refusal { result ≡ first_failed (start_checks state.now level (named by.0 (index_of words.now)) words.now (drop 2 words.now)) }
+    ensures within { result ≡ None → named by.0 (index_of words.now) < length state.now.vps }
+{
+    let vp = named(by, index_of(words));
+    let target = target_of(words);
+    if is_other_partition(words) {
+        return Some(HvStatus::INVALID_PARTITION_ID);
+    }
+    if vp as usize >= state.vps.len() {
+        return Some(HvStatus::INVALID_VP_INDEX);
+    }
+    if target > 1 || padding_of(words) != 0 {
+        return Some(HvStatus::INVALID_PARAMETER);
+    }
+    if level == Vtl::Zero && (target == 1 || denies_startup(state.config)) {
+        return Some(HvStatus::ACCESS_DENIED);
+    }
+    if target == 1 && !standing(state, vp).one {
+        return Some(HvStatus::INVALID_VTL_STATE);
+    }
+    if is_called(&standing(state, vp)) {
+        return Some(HvStatus::INVALID_VP_STATE);
+    }
+    if !is_legal_context(&context_of(words)) {
+        return Some(HvStatus::INVALID_REGISTER_VALUE);
+    }
+    None
 }
 
 /// Why the call that asks for masks is refused for its header, if it is. Its map flags, which are to be a mask, stand where

@@ -4,6 +4,7 @@
 mod block;
 mod checks;
 mod plans;
+mod running;
 mod serving;
 mod turn;
 

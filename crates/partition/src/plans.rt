@@ -1,23 +1,24 @@
 // What each request comes to.
 ghost use Rattle.std.specs.Prelude.{◌≡◌, ◌+◌, ◌-◌, ◌<◌, ◌≤◌, ◌^◌, Some, None, [], length, take};
 ghost use Rattle.vsm_core.specs.Calls.{first_failed};
-ghost use Rattle.vsm_core.specs.Partition.{enable_partition_checks};
+ghost use Rattle.vsm_core.specs.Partition.{enable_partition_checks, standing};
 ghost use Rattle.vsm_core.specs.Protection.{IsSlice, asks_for, config_checks, page_refusals};
 ghost use Rattle.vsm_core.specs.Reps.{acting, refusing};
-ghost use Rattle.vsm_core.specs.Served.{serve, serve_call, judged, enable_partition, look as look_lem, with_round as with_round_lem, write_config as write_config_lem};
+ghost use Rattle.vsm_core.specs.Served.{serve, serve_call, judged, enable_partition, fetch_of, look as look_lem, with_round as with_round_lem, write_config as write_config_lem};
+ghost use Rattle.vsm_core.specs.Targets.{level_of};
 ghost use Rattle.flush_round.specs.Steps.{AreWithin};
 ghost use Rattle.partition.specs.Plans.{Plans};
 
 use crate::block::Under;
 use crate::checks::{
     config_refusal, context_of, default_mask, enable_partition_refusal, enable_vp_refusal,
-    modify_refusal, page_refusal, protects, standing,
+    modify_refusal, page_refusal, protects, standing, start_refusal,
 };
 use arrayvec::ArrayVec;
 use flush_round::Round;
-use hyper_abi::{index_of, named};
+use hyper_abi::{index_of, named, target_of};
 use vsm_base::{HvStatus, Mask, Page, VpIndex, Vtl};
-use vsm_core::{Entry, PartCall, PartitionState, Reply, Request};
+use vsm_core::{Accepted, Entry, PartCall, PartitionState, Reply, Request};
 use vsm_status::PartitionStatus;
 
 fn reply_of(status: HvStatus, done: u16, value: u64) -> Reply
@@ -99,6 +100,51 @@ fn enable_vp(state: &mut PartitionState, by: VpIndex, level: Vtl, words: &[u64; 
     state.vps.set(vp as usize, standing);
     let vp = VpIndex(vp as u8);
     one_entry(by, Entry::Level { by, vp }, reply)
+}
+
+fn level_of(number: u64) -> Vtl
+    ensures { result ≡ level_of number }
+{
+    if number == 1 { Vtl::One } else { Vtl::Zero }
+}
+
+/// A start is accepted: its level and its context wait for the processor to fetch them.
+fn start_vp(state: &mut PartitionState, by: VpIndex, level: Vtl, words: &[u64; 30]) -> Under
+    requires { length state.old.vps ≤ 8 }
+    ensures { Plans state.old state.new result (serve_call state.old by level (PartCall.Start words.now)) }
+{
+    if let Some(status) = start_refusal(state, by, level, words) {
+        return refused(by, 0, status);
+    }
+    let vp = named(by, index_of(words));
+    let level = level_of(target_of(words));
+    let context = context_of(words);
+    let mut standing = standing(state, vp);
+    standing.start = Some(Accepted { level, context });
+    state.vps.set(vp as usize, standing);
+    let vp = VpIndex(vp as u8);
+    let reply = reply_of(HvStatus::SUCCESS, 0, 0);
+    one_entry(by, Entry::Start { by, vp, level }, reply)
+}
+
+/// A starting processor gets the contexts that wait for it by the reply, and is started.
+fn fetch(state: &mut PartitionState, by: VpIndex) -> Under
+    requires { by.0 < length state.old.vps }
+    ensures { Plans state.old state.new result (fetch_of state.old by (standing state.old by.0).start) }
+{
+    let mut standing = standing(state, u32::from(by.0));
+    let Some(start) = standing.start else {
+        return refused(by, 0, HvStatus::INVALID_VP_STATE);
+    };
+    let Accepted { level, context } = start;
+    let waiting = standing.waiting;
+    let mut reply = reply_of(HvStatus::SUCCESS, 0, 0);
+    reply.context = Some((level, context, waiting));
+    standing.started = true;
+    standing.start = None;
+    standing.waiting = None;
+    state.vps.set(usize::from(by.0), standing);
+    one_entry(by, Entry::Fetch { vp: by }, reply)
 }
 
 /// The elements of a slice before the first that is refused, each with the mask, and what refuses that one, if there is one.
@@ -204,6 +250,7 @@ fn write_config(state: &mut PartitionState, by: VpIndex, value: u128) -> Under
 pub fn plan(state: &mut PartitionState, request: &Request) -> Under
     requires vps { length state.old.vps ≤ 8 }
     requires rounds { state.old.rounds < 2 ^ 64 - 1 }
+    requires by { request.now.by.0 < length state.old.vps }
     requires slice { IsSlice request.now.call }
     ensures { Plans state.old state.new result (serve state.old request.now) }
 {
@@ -211,6 +258,7 @@ pub fn plan(state: &mut PartitionState, request: &Request) -> Under
     match &request.call {
         PartCall::EnablePartition(words) => enable_partition(state, by, words),
         PartCall::EnableVp(words) => enable_vp(state, by, request.level, words),
+        PartCall::Start(words) => start_vp(state, by, request.level, words),
         PartCall::Modify {
             header,
             pages,
@@ -224,6 +272,6 @@ pub fn plan(state: &mut PartitionState, request: &Request) -> Under
         }
         PartCall::ReadConfig => look(state, by, state.config),
         PartCall::WriteConfig(value) => write_config(state, by, *value),
-        _ => refused(by, 0, HvStatus::INVALID_HYPERCALL_CODE),
+        PartCall::Fetch => fetch(state, by),
     }
 }

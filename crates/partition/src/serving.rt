@@ -1,20 +1,22 @@
 // The partition, between two requests and while it serves one.
 ghost use Rattle.std.specs.Option.{is_none};
-ghost use Rattle.std.specs.Prelude.{◌≡◌, ◌≢◌, ◌+◌, ◌<◌, ◌≤◌, None, length, IfOk};
+ghost use Rattle.std.specs.List.{range_with_len};
+ghost use Rattle.std.specs.Prelude.{◌≡◌, ◌≢◌, ◌+◌, ◌<◌, ◌≤◌, true, None, length, map, IfOk};
 ghost use Rattle.vsm_core.specs.Partition.{opening_partition};
 ghost use Rattle.vsm_core.specs.Served.{block};
-ghost use Rattle.partition.specs.PartView.{begun, opening_view};
+ghost use Rattle.partition.specs.PartView.{begun, has_ended, opening_view, not_ended, running_of, with_ended};
 ghost use Rattle.vsm_core.specs.Protection.{IsSlice};
 ghost use Rattle.partition.specs.Turns.{Turns, IsKept, IsPaced};
 
 use crate::block::{Next, Under, make_next};
 use crate::plans::plan;
+use crate::running::{end, running_of};
 use crate::turn::PartTurn;
 use fabric::Steward;
 use protection_map::Journal;
 use std::alloc::{AllocError, Global};
 use std::marker::Model;
-use vsm_base::{Items, Limits, Mask, Memory};
+use vsm_base::{Items, Limits, Mask, Memory, VpIndex};
 use vsm_core::{PartitionState, Request, Standing};
 
 /// The partition, between two requests and while it serves one.
@@ -23,6 +25,7 @@ pub struct Partition {
     state: PartitionState,
     journal: Journal,
     under: Option<Under>,
+    ended: Items<bool>,
 }
 
 impl Model for Partition {
@@ -32,9 +35,9 @@ impl Model for Partition {
 
     ghost Value = { PartView };
 
-    ghost view = { λ p. record { state = p.state; journal = p.journal; under = doing p.state.rounds p.under } };
+    ghost view = { λ p. record { state = p.state; journal = p.journal; under = doing p.state.rounds p.under; ended = p.ended } };
 
-    ghost invariant = { λ p. IsSound p.state p.journal p.under };
+    ghost invariant = { λ p. IsSound p.state p.journal p.under p.ended };
 }
 
 /// What the partition knows before the first request.
@@ -50,6 +53,7 @@ fn opening_partition(
         vps.push(Standing {
             one: false,
             started: vp < started,
+            start: None,
             waiting: None,
         })?;
     }
@@ -62,9 +66,20 @@ fn opening_partition(
     })
 }
 
+/// None of so many processors counts as ended.
+fn none_ended(alloc: Global, vps: u8) -> Result<Items<bool>, AllocError>
+    ensures { IfOk result (λ ended. ended ≡ map not_ended (range_with_len 0 vps)) }
+{
+    let mut ended = Items::new(alloc);
+    for _vp in 0..vps {
+        ended.push(false)?;
+    }
+    Ok(ended)
+}
+
 impl Partition {
     /// A partition that is free, with no entry in its journal. Level 1 isn't enabled anywhere, the first `started`
-    /// processors are started, and `masks` has the mask of each page. Needs at most 8 processors, 256 pages and a budget
+    /// processors are started, none counts as ended, and `masks` has the mask of each page. Needs at most 8 processors, 256 pages and a budget
     /// of 10,000 marks, a mask for each page, and no more started processors than there are.
     ///
     /// # Errors
@@ -86,6 +101,7 @@ impl Partition {
             state: opening_partition(alloc, limits, started)?,
             journal: Journal::new(alloc, limits, masks)?,
             under: None,
+            ended: none_ended(alloc, limits.vps)?,
         })
     }
 
@@ -111,8 +127,25 @@ impl Partition {
             state: _,
             journal,
             under: _,
+            ended: _,
         } = self;
         journal
+    }
+
+    /// From now on a processor counts as ended, where there is one of this number: `running` doesn't count it. A second
+    /// call changes nothing. That it is told is this project's own.
+    pub fn ended(&mut self, vp: VpIndex)
+        ensures view { self.new ≡ with_ended self.old vp.0 }
+        ensures ended { vp.0 < length self.old.state.vps → has_ended self.new.ended vp.0 ≡ true }
+    {
+        end(&mut self.ended, vp);
+    }
+
+    /// How many processors are started, or their start is accepted, and don't count as ended. This project's own.
+    pub fn running(&self) -> u8
+        ensures { result ≡ running_of self.now.state self.now.ended }
+    {
+        running_of(&self.state, &self.ended)
     }
 
     /// Begins a request. What it comes to is decided here, by the state as it is now, and `turn` adds its entries. Needs
@@ -134,10 +167,29 @@ impl Partition {
     /// 4. `INVALID_VTL_STATE`: level 1 isn't enabled for the partition.
     /// 5. `VTL_ALREADY_ENABLED`: level 1 is enabled on that processor already.
     /// 6. `ACCESS_DENIED`: level 0 calls, and level 1 is enabled on some processor.
-    /// 7. `INVALID_VP_STATE`: that processor isn't the caller, and is started.
+    /// 7. `INVALID_VP_STATE`: that processor isn't the caller, and is started or its start was accepted.
     /// 8. `INVALID_REGISTER_VALUE`: a register of the context has a bit set that must be zero.
     ///
     /// The caller gets its own context by the reply; the context of another processor waits for that one's start.
+    ///
+    /// `PartCall::Start` starts a processor at a level, with the context in the words from the third on (TLFS,
+    /// HvCallStartVirtualProcessor). Its status is the first of these whose cause is there, and else `SUCCESS`:
+    /// 1. `INVALID_PARTITION_ID`: the first word isn't 2^64 - 1.
+    /// 2. `INVALID_VP_INDEX`: no processor has the index, bits 31:0 of the second word. 0xFFFFFFFE is the caller.
+    /// 3. `INVALID_PARAMETER`: the target level, bits 39:32 of the second word, is above 1, or a bit above it is set.
+    /// 4. `ACCESS_DENIED`: level 0 calls, and the target level is 1 or bit 6 (DenyLowerVtlStartup) of the partition's
+    ///    configuration is set.
+    /// 5. `INVALID_VTL_STATE`: the target level is 1, and level 1 isn't enabled on that processor.
+    /// 6. `INVALID_VP_STATE`: that processor is started, or its start was accepted.
+    /// 7. `INVALID_REGISTER_VALUE`: a register of the context has a bit set that must be zero.
+    ///
+    /// The start is accepted then. Its level and its context wait for the processor, whose start word is posted to with
+    /// the entry.
+    ///
+    /// `PartCall::Fetch` gives the contexts to a processor that starts: the reply has the level and the context of its
+    /// start, and level 1's context that has waited, if one has. It is started then, and nothing waits for it any more.
+    /// The status is `SUCCESS`, and no element is done. It is refused with `INVALID_VP_STATE` where no start of the caller
+    /// was accepted. It is this project's own.
     ///
     /// `PartCall::Modify` is a slice of a call that asks for one mask for pages, which binds level 0 (TLFS,
     /// HvCallModifyVtlProtectionMask). It is refused by the first of these whose cause is there:
@@ -171,9 +223,8 @@ impl Partition {
     /// Else the status is `SUCCESS`, and one element is done. Where bit 0 becomes set a round asks for that mask for every
     /// page. Bit 5 (ZeroMemoryOnReset) and bit 6 (DenyLowerVtlStartup) may be set and cleared at any time.
     ///
-    /// A call that isn't built yet is refused as one that there isn't, with `INVALID_HYPERCALL_CODE`. A refused request
-    /// adds the entry of its refusal alone and changes nothing else. That, the masks, and the order of the causes, are this
-    /// project's own.
+    /// A refused request adds the entry of its refusal alone and changes nothing else. That, the masks, and the order of
+    /// the causes, are this project's own.
     pub fn begin(&mut self, request: Request)
         requires free { self.old.under ≡ None }
         requires by { request.by.0 < length self.old.state.vps }

@@ -40,6 +40,8 @@ enum Asked {
     /// A processor at a level asks for level 1 on a processor, by these two words and a context that is all zero but
     /// for Cr3.
     Processor(u8, Vtl, u64, u64, u64),
+    /// A processor at a level asks for the start of a processor, by these two words and such a context.
+    Start(u8, Vtl, u64, u64, u64),
     /// Processor 0 at a level asks for a mask, by this header, for these pages, elements 8 to 10 of 20.
     Masks(Vtl, u64, u64, [u64; 3]),
     /// Processor 1 asks for a flush that names seven elements.
@@ -50,8 +52,8 @@ enum Asked {
     Config,
     /// Processor 0 writes it.
     Write(u128),
-    /// Processor 0 fetches contexts.
-    Fetch,
+    /// A processor fetches its contexts.
+    Fetch(u8),
 }
 
 const ENABLE: Asked = Asked::Partition(OWN, 1);
@@ -65,6 +67,15 @@ const OTHER: Asked = Asked::Processor(0, Vtl::One, OWN, TARGET | 2, 0x5000);
 /// Protection is turned on, and each page is to have mask 13.
 const PROTECT: Asked = Asked::Write(0x1B);
 
+/// Level 0 of processor 0 starts processor 2 at level 0.
+const START: Asked = Asked::Start(0, Vtl::Zero, OWN, 2, 0x6000);
+
+/// Level 1 of processor 0 starts processor 2 at level 1.
+const START_ONE: Asked = Asked::Start(0, Vtl::One, OWN, TARGET | 2, 0x6000);
+
+/// Level 0 may start no processor.
+const DENY: Asked = Asked::Write(0x40);
+
 /// The words of a context that is all zero but for Cr3.
 fn context(cr3: u64) -> [u64; 28] {
     let mut words = [0; 28];
@@ -72,14 +83,13 @@ fn context(cr3: u64) -> [u64; 28] {
     words
 }
 
-fn call_for_processor(first: u64, second: u64, cr3: u64) -> PartCall
-    ensures { IsSlice result }
-{
+/// The words of a call for a processor.
+fn words_of(first: u64, second: u64, cr3: u64) -> [u64; 30] {
     let mut words = [0; 30];
     words[0] = first;
     words[1] = second;
     words[27] = cr3;
-    PartCall::EnableVp(words)
+    words
 }
 
 fn call_for_masks(first: u64, second: u64, elements: &[u64; 3]) -> PartCall
@@ -105,7 +115,10 @@ fn request(asked: &Asked) -> Request
             (0, Vtl::Zero, PartCall::EnablePartition([first, second]))
         }
         Asked::Processor(by, level, first, second, cr3) => {
-            (by, level, call_for_processor(first, second, cr3))
+            (by, level, PartCall::EnableVp(words_of(first, second, cr3)))
+        }
+        Asked::Start(by, level, first, second, cr3) => {
+            (by, level, PartCall::Start(words_of(first, second, cr3)))
         }
         Asked::Masks(level, first, second, pages) => {
             (0, level, call_for_masks(first, second, &pages))
@@ -114,7 +127,7 @@ fn request(asked: &Asked) -> Request
         Asked::Status => (1, Vtl::Zero, PartCall::ReadStatus),
         Asked::Config => (1, Vtl::Zero, PartCall::ReadConfig),
         Asked::Write(value) => (0, Vtl::One, PartCall::WriteConfig(value)),
-        Asked::Fetch => (0, Vtl::Zero, PartCall::Fetch),
+        Asked::Fetch(by) => (by, Vtl::Zero, PartCall::Fetch),
     };
     let by = VpIndex(by);
     Request { by, level, call }
@@ -369,9 +382,122 @@ fn a_refused_request_changes_nothing_but_the_journal(rt: HostRuntime) -> Result<
     Ok(())
 }
 
+/// Whether level 0 of processor 0 is refused a start by these two words with this status, and nothing of it is done.
+fn refuses(
+    alloc: Global,
+    before: &[Asked],
+    first: u64,
+    second: u64,
+    status: u16,
+) -> Result<bool, Memory> {
+    let asked = Asked::Start(0, Vtl::Zero, first, second, 0);
+    Ok(reply_to(alloc, before, asked)? == plain(status, 0, 0))
+}
+
 #[test]
-fn a_call_that_is_not_built_is_refused(rt: HostRuntime) -> Result<(), Fail> {
-    assert!(rt; has_status(rt.alloc(), 1, Asked::Fetch, 0x0002)?);
+fn each_cause_refuses_a_start(rt: HostRuntime) -> Result<(), Fail> {
+    let alloc = rt.alloc();
+    let bad = Asked::Start(0, Vtl::Zero, OWN, 2, BAD_CR3);
+    assert!(rt; refuses(alloc, &[], 0, 2, 0x000D)?);
+    assert!(rt; refuses(alloc, &[], OWN, 3, 0x000E)?);
+    assert!(rt; refuses(alloc, &[], OWN, 2 << 32 | 2, 0x0005)?);
+    assert!(rt; refuses(alloc, &[], OWN, 1 << 40 | 2, 0x0005)?);
+    assert!(rt; refuses(alloc, &[], OWN, TARGET | 2, 0x0006)?);
+    assert!(rt; refuses(alloc, &[DENY], OWN, 2, 0x0006)?);
+    assert!(rt; reply_to(alloc, &[ENABLE, LEVEL], START_ONE)? == plain(0x0051, 0, 0));
+    assert!(rt; refuses(alloc, &[], OWN, 1, 0x0015)?);
+    assert!(rt; refuses(alloc, &[], OWN, 0xFFFF_FFFE, 0x0015)?);
+    assert!(rt; refuses(alloc, &[START], OWN, 2, 0x0015)?);
+    assert!(rt; reply_to(alloc, &[], bad)? == plain(0x0050, 0, 0));
+    Ok(())
+}
+
+#[test]
+fn the_first_of_two_causes_refuses_a_start(rt: HostRuntime) -> Result<(), Fail> {
+    let alloc = rt.alloc();
+    let started = Asked::Start(0, Vtl::One, OWN, TARGET | 1, 0);
+    let bad = Asked::Start(0, Vtl::Zero, OWN, 1, BAD_CR3);
+    assert!(rt; refuses(alloc, &[], 0, 3, 0x000D)?);
+    assert!(rt; refuses(alloc, &[], OWN, 2 << 32 | 3, 0x000E)?);
+    assert!(rt; refuses(alloc, &[DENY], OWN, 2 << 32 | 2, 0x0005)?);
+    assert!(rt; refuses(alloc, &[], OWN, TARGET | 1, 0x0006)?);
+    assert!(rt; refuses(alloc, &[DENY], OWN, 1, 0x0006)?);
+    assert!(rt; reply_to(alloc, &[ENABLE, LEVEL], started)? == plain(0x0051, 0, 0));
+    assert!(rt; reply_to(alloc, &[], bad)? == plain(0x0015, 0, 0));
+    Ok(())
+}
+
+#[test]
+fn level_1_starts_processors_where_level_0_may_not(rt: HostRuntime) -> Result<(), Fail> {
+    let by = FIRST;
+    let asked = Asked::Start(0, Vtl::One, OWN, 2, 0x6000);
+    let entries = [
+        Entry::Config { by, value: 0x40 },
+        Entry::Refuse {
+            by,
+            status: HvStatus(0x0006),
+        },
+        Entry::Start {
+            by,
+            vp: THIRD,
+            level: Vtl::Zero,
+        },
+    ];
+    assert!(rt; leaves(rt.alloc(), &[DENY, START], asked, &entries)?);
+    assert!(rt; reply_to(rt.alloc(), &[DENY], asked)? == plain(0, 0, 0));
+    assert!(rt; reply_to(rt.alloc(), &[ENABLE, LEVEL, OTHER], START_ONE)? == plain(0, 0, 0));
+    Ok(())
+}
+
+#[test]
+fn a_starting_processor_fetches_the_contexts_that_wait(rt: HostRuntime) -> Result<(), Fail> {
+    let alloc = rt.alloc();
+    let reply = Reply {
+        status: HvStatus(0),
+        done: 0,
+        value: 0,
+        context: Some((Vtl::Zero, context(0x6000), None)),
+    };
+    let both = Reply {
+        context: Some((Vtl::One, context(0x6000), Some(context(0x5000)))),
+        ..reply
+    };
+    let fetch = Asked::Fetch(2);
+    let refused = plain(0x0015, 0, 0);
+    assert!(rt; reply_to(alloc, &[START], fetch)? == Some(reply));
+    assert!(rt; reply_to(alloc, &[ENABLE, LEVEL, OTHER, START_ONE], fetch)? == Some(both));
+    assert!(rt; reply_to(alloc, &[], fetch)? == refused);
+    assert!(rt; reply_to(alloc, &[], Asked::Fetch(1))? == refused);
+    assert!(rt; reply_to(alloc, &[START, fetch], fetch)? == refused);
+    assert!(rt; reply_to(alloc, &[START, fetch], START)? == refused);
+    Ok(())
+}
+
+#[test]
+fn a_start_and_a_fetch_add_one_entry_each(rt: HostRuntime) -> Result<(), Fail> {
+    let entries = [
+        Entry::Start {
+            by: FIRST,
+            vp: THIRD,
+            level: Vtl::Zero,
+        },
+        Entry::Fetch { vp: THIRD },
+        Entry::Refuse {
+            by: THIRD,
+            status: HvStatus(0x0015),
+        },
+    ];
+    let fetch = Asked::Fetch(2);
+    assert!(rt; leaves(rt.alloc(), &[START, fetch], fetch, &entries)?);
+    Ok(())
+}
+
+#[test]
+fn an_accepted_processor_gets_no_level_1_from_another(rt: HostRuntime) -> Result<(), Fail> {
+    let before = [ENABLE, LEVEL, START];
+    let late = Asked::Processor(0, Vtl::One, OWN, TARGET | 2, 0x5000);
+    assert!(rt; reply_to(rt.alloc(), &before[..1], START)? == plain(0, 0, 0));
+    assert!(rt; reply_to(rt.alloc(), &before, late)? == plain(0x0015, 0, 0));
     Ok(())
 }
 
@@ -595,5 +721,25 @@ fn a_round_waits_for_a_busy_processor(rt: HostRuntime) -> Result<(), Fail> {
     let turn = finish_over(&mut partition, &mut fabric);
     assert!(rt; Some(turn) == plain(0, 7, 0).map(PartTurn::Done));
     assert_eq!(rt; partition.journal().entries().len(), 5);
+    Ok(())
+}
+
+#[test]
+fn an_ended_processor_does_not_run(rt: HostRuntime) -> Result<(), Fail> {
+    let alloc = rt.alloc();
+    let mut fabric = opened(alloc)?;
+    let mut partition = partition(alloc)?;
+    assert_eq!(rt; partition.running(), 2);
+    serve_over(&mut partition, request(&START), &mut fabric);
+    assert_eq!(rt; partition.running(), 3);
+    serve_over(&mut partition, request(&Asked::Fetch(2)), &mut fabric);
+    assert_eq!(rt; partition.running(), 3);
+    partition.ended(FIRST);
+    assert_eq!(rt; partition.running(), 2);
+    partition.ended(FIRST);
+    partition.ended(VpIndex(200));
+    assert_eq!(rt; partition.running(), 2);
+    partition.ended(THIRD);
+    assert_eq!(rt; partition.running(), 1);
     Ok(())
 }

@@ -1,7 +1,9 @@
 -- How many steps an attempt has.
 use Rattle.std.proofs.Common.{◌≤◌, ◌+◌, ◌-◌, ◌*◌, ◌/◌, ◌%◌, ◌^◌, ◌==◌, ◌&&◌, ℕ, zero, suc, Bool, true, false, not, cond, nat_lt, Option, Some, None, List, [], ◌∷◌, ◌++◌, length, take, drop, IfSome, ◌≡◌, refl, ap, ◌∙◌, subst, arith}
+use Rattle.std.specs.List.{filter, range_with_len}
 use Rattle.std.proofs.lemmas.Bool.Decides.{nat_tests}
-use Rattle.std.proofs.lemmas.List.{length-append, take-append-le, drop-append-le}
+use Rattle.std.proofs.lemmas.List.{length-append, length-map, take-append-le, drop-append-le}
+use Rattle.std.proofs.lemmas.List.FromFn.{length-range_with_len}
 use Rattle.vsm_base.specs.declared.name.Name.{Name}
 use Rattle.vsm_base.specs.declared.name.Name.TheVariants as names
 use Rattle.vsm_base.specs.Masks.{allows}
@@ -10,6 +12,7 @@ use Rattle.vsm_base.specs.declared.places.Access.TheVariants.{Read, Write, Execu
 use Rattle.vsm_base.specs.declared.places.Vtl.{Vtl}
 use Rattle.vsm_base.specs.declared.places.Vtl.TheVariants.{Zero, One}
 use Rattle.vsm_base.specs.declared.status.HvStatus.{HvStatus}
+use Rattle.vsm_base.specs.declared.status.TheConstants.HvStatus as statuses
 use Rattle.vsm_core.specs.declared.mark.Grant.{Grant}
 use Rattle.vsm_core.specs.declared.mark.GuestFault.{GuestFault}
 use Rattle.vsm_core.specs.declared.mark.GuestFault.TheVariants.{Unmapped, Page, Undefined, Gp}
@@ -31,6 +34,8 @@ use Rattle.vsm_core.specs.declared.request.Reply.{Reply}
 use Rattle.vsm_core.specs.Tree.{Tree, Ends, Asks, Wants, WordStep, Leaving, then_, asks_all, reads, after, follow, by_reply, followed, Counts}
 use Rattle.vsm_core.specs.Calls.{Row, row_of, rows, code_in, is_fast, first_failed}
 use Rattle.vsm_core.specs.Hypercalls.{input_value, input_address, output_address, has_output, fast_words, input_refusal, asked_of, replied, result_outcome}
+use Rattle.vsm_core.specs.Interrupts.{vector_in, processors_in, interrupted_level, interrupt_checks, is_in, those_in, interrupt_step, interrupt_steps}
+use Rattle.vsm_core.specs.Starts.{start_tree}
 use Rattle.vsm_core.specs.RegisterCalls.{Setting, settings, halves, value_words, got_words, register_of, is_partitions, names_one, name_checks, get_refusal, read_call, unless_refused, look_in, write_in, all_set, all_emptied, slice_outcome, count_of, start_of, past_of, header_refusal, set_refusals, get_refusals, slice_end, slice_numbers, slice_output, got_slice}
 use Rattle.vsm_core.specs.Reps.{RepEnd, Refused as ByElement, GoesOn, Complete, slice_past, first_word, words_between, acting, replied_end}
 use Rattle.vsm_core.specs.Targets.{target_level}
@@ -44,7 +49,7 @@ use Rattle.vsm_core.specs.Messages.{message_words, flagged, is_free}
 use Rattle.vsm_core.specs.Outcomes.{Origin, Outcome, Refusal, faulted, plain, outcome_at, loaded, passed, spun, note_of, held_outcome, denied_outcome, hit_outcome, register_note, set_outcome, get_outcome, eom_outcome}
 use Rattle.vsm_core.specs.Registers.{is_legal, get as get_in}
 use Rattle.vsm_core.proofs.Checks.{none-fails}
-use Rattle.vsm_core.specs.Attempt.{attempt, by_access, begun, leaves, left_with, in_own_access, told_on, by_slot, posting, tells, refused, most_denied, most_steps, most_steps_of, goal_of, returns, is_wanted, wanted_outcome, unwanted_outcome, polled_on, sending, sends, eom_on, requests, left_for, hit_tells, hits_on, intercepted, is_write_hit, is_read_hit, set_tree, get_tree, by_page_mask, behind_page_mask, puts_out, looked_by, served, gets_or_asks, gets_by, sets_or_asks, sets_by, by_input, reads_slice, reads_input, behind_output, by_memory, admitted, by_refusal, hypercall_tree}
+use Rattle.vsm_core.specs.Attempt.{attempt, by_access, begun, leaves, left_with, in_own_access, told_on, by_slot, posting, tells, refused, most_denied, most_steps, most_steps_of, goal_of, returns, is_wanted, wanted_outcome, unwanted_outcome, polled_on, sending, sends, eom_on, requests, left_for, hit_tells, hits_on, intercepted, is_write_hit, is_read_hit, set_tree, get_tree, by_page_mask, behind_page_mask, puts_out, looked_by, served, gets_or_asks, gets_by, sets_or_asks, sets_by, interrupts_by, interrupts, by_input, reads_slice, reads_input, behind_output, by_memory, by_registers, admitted, by_refusal, hypercall_tree}
 
 pub Counts-then_ : {A B : Type 0} (most : A → ℕ) (most_then : B → ℕ) (n : ℕ) (t : Tree A) (f : A → Tree B) → Counts most n t → ((m : ℕ) (a : A) → m ≤ most a → Counts most_then m (f a)) → Counts most_then n (then_ t f)
 Counts-then_ most most_then n (Ends a) f h g = g n a h
@@ -274,6 +279,9 @@ flush_row = record { code = 0x0002; is_rep = false; may_be_fast = false; header 
 abbrev pub flush_list_row : Row
 flush_list_row = record { code = 0x0003; is_rep = true; may_be_fast = false; header = 24; element = 8; read = 0; output = 0 }
 
+abbrev pub interrupt_row : Row
+interrupt_row = record { code = 0x000B; is_rep = false; may_be_fast = true; header = 16; element = 0; read = 0; output = 0 }
+
 abbrev pub modify_row : Row
 modify_row = record { code = 0x000C; is_rep = true; may_be_fast = false; header = 16; element = 8; read = 8; output = 0 }
 
@@ -289,22 +297,28 @@ get_row = record { code = 0x0050; is_rep = true; may_be_fast = false; header = 1
 abbrev pub set_row : Row
 set_row = record { code = 0x0051; is_rep = true; may_be_fast = false; header = 16; element = 32; read = 32; output = 0 }
 
+abbrev pub start_row : Row
+start_row = record { code = 0x0099; is_rep = false; may_be_fast = false; header = 240; element = 0; read = 0; output = 0 }
+
 one-row : (P : Row → Type 0) (b : Bool) (row : Row) (other : Option Row) → P row → IfSome other P → IfSome (cond b (Some row) other) P
 one-row P true row other h g = h
 one-row P false row other h g = g
 
 -- what holds of each of these holds of the call of any code
-pub each-row : (P : Row → Type 0) (code : ℕ) → P flush_row → P flush_list_row → P modify_row → P partition_row → P level_row → P get_row → P set_row → IfSome (row_of code) P
+pub each-row : (P : Row → Type 0) (code : ℕ) → P flush_row → P flush_list_row → P interrupt_row → P modify_row → P partition_row → P level_row → P get_row → P set_row → P start_row → IfSome (row_of code) P
 unfolding row_of rows
-each-row P code flush flush_list modify partition level gets sets =
-    let seventh : Option Row = cond (0x0051 == code) (Some set_row) None in
-    let sixth : Option Row = cond (0x0050 == code) (Some get_row) seventh in
-    let fifth : Option Row = cond (0x000F == code) (Some level_row) sixth in
-    let fourth : Option Row = cond (0x000D == code) (Some partition_row) fifth in
-    let third : Option Row = cond (0x000C == code) (Some modify_row) fourth in
+each-row P code flush flush_list interrupt modify partition level gets sets start =
+    let ninth : Option Row = cond (0x0099 == code) (Some start_row) None in
+    let eighth : Option Row = cond (0x0051 == code) (Some set_row) ninth in
+    let seventh : Option Row = cond (0x0050 == code) (Some get_row) eighth in
+    let sixth : Option Row = cond (0x000F == code) (Some level_row) seventh in
+    let fifth : Option Row = cond (0x000D == code) (Some partition_row) sixth in
+    let fourth : Option Row = cond (0x000C == code) (Some modify_row) fifth in
+    let third : Option Row = cond (0x000B == code) (Some interrupt_row) fourth in
     let second : Option Row = cond (0x0003 == code) (Some flush_list_row) third in
-    one-row P (0x0002 == code) flush_row second flush (one-row P (0x0003 == code) flush_list_row third flush_list (one-row P (0x000C == code) modify_row fourth modify
-    (one-row P (0x000D == code) partition_row fifth partition (one-row P (0x000F == code) level_row sixth level (one-row P (0x0050 == code) get_row seventh gets (one-row P (0x0051 == code) set_row None sets tt))))))
+    one-row P (0x0002 == code) flush_row second flush (one-row P (0x0003 == code) flush_list_row third flush_list (one-row P (0x000B == code) interrupt_row fourth interrupt
+    (one-row P (0x000C == code) modify_row fifth modify (one-row P (0x000D == code) partition_row sixth partition (one-row P (0x000F == code) level_row seventh level
+    (one-row P (0x0050 == code) get_row eighth gets (one-row P (0x0051 == code) set_row ninth sets (one-row P (0x0099 == code) start_row None start tt))))))))
 
 -- a slice has at most eight elements, and none behind the last of the call
 pub past-few : (start count : ℕ) → slice_past start count ≤ start + 8
@@ -465,6 +479,32 @@ gets_by-counts from header words None n le =
     omega (arith, only, le))
     (puts_out-counts from (slice_output from target found) (got_slice from target found) n (omega (arith, past, few, long, most, le)))
 
+-- at most so many of so many processors are interrupted
+some-few : (b : Bool) (p : ℕ) (ps : List ℕ) → length (cond b (p ∷ ps) ps) ≤ suc (length ps)
+some-few true p ps = omega arith
+some-few false p ps = omega arith
+
+filter-few : (f : ℕ → Bool) (ps : List ℕ) → length (filter f ps) ≤ length ps
+filter-few f [] = omega arith
+filter-few f (p ∷ ps) = let some = some-few (f p) p (filter f ps) in let few = filter-few f ps in omega (arith, some, few)
+
+interrupts-few : (level : Vtl) (vector bits count : ℕ) → length (interrupt_steps level vector (those_in bits 0 count)) ≤ count
+interrupts-few level vector bits count =
+    let a = length-map (those_in bits 0 count) (interrupt_step level vector) in
+    let b = filter-few (is_in bits) (range_with_len 0 count) in
+    let c = length-range_with_len 0 count in
+    omega (arith, a, b, c)
+
+interrupts_by-counts : (from : Origin) (header : List ℕ) (refusal : Option HvStatus) (n : ℕ) → from.vps ≤ 8 → n ≤ 30 → Counts most_steps n (interrupts_by from header refusal)
+interrupts_by-counts from header (Some status) n most le = omega arith
+interrupts_by-counts from header None n most le =
+    let level = interrupted_level from.state.active header in
+    let few = interrupts-few level (vector_in header) (processors_in header) from.vps in
+    asks_all-counts most_steps n (interrupt_steps level (vector_in header) (those_in (processors_in header) 0 from.vps)) (Ends (result_outcome from from.state statuses.SUCCESS 0)) (omega (arith, few, most, le))
+
+interrupts-counts : (from : Origin) (header : List ℕ) (n : ℕ) → from.vps ≤ 8 → n ≤ 30 → Counts most_steps n (interrupts from header)
+interrupts-counts from header n most le = interrupts_by-counts from header (first_failed (interrupt_checks from.vps from.state.active header)) n most le
+
 -- an output adds the step of its page's mask
 abbrev one_if : Bool → ℕ
 one_if true = 1
@@ -486,51 +526,61 @@ by_memory-counts from row address h = λ a. λ generation.
     behind_page_mask-counts from.state.active from Read address generation 2 (behind_output from row generation (reads_input from row address)) (omega arith) (λ n le.
     behind_output-counts (has_output row) from generation n (reads_input from row address) (omega arith) (λ m few. reads_input-counts from row address m (λ header words. h m header words (omega (arith, few, le)))))
 
-admitted-by : (from : Origin) (row : Row) → Counts most_steps 0 (by_memory from row (input_address from.state)) → Counts most_steps 0 (admitted from row)
-admitted-by from row h =
-    Counts-cond most_steps 0 (is_fast (input_value from.state)) (requests from row.code (fast_words from.state) []) (by_memory from row (input_address from.state)) (requests-counts from row.code 0 (fast_words from.state) [] (omega arith)) h
+by_registers-counts : (from : Origin) (code : ℕ) (header : List ℕ) → from.vps ≤ 8 → Counts most_steps 0 (by_registers from code header)
+by_registers-counts from code header most =
+    Counts-cond most_steps 0 (code == 0x000B) (interrupts from header) (requests from code header []) (interrupts-counts from header 0 most (omega arith)) (requests-counts from code 0 header [] (omega arith))
+
+admitted-by : (from : Origin) (row : Row) → from.vps ≤ 8 → Counts most_steps 0 (by_memory from row (input_address from.state)) → Counts most_steps 0 (admitted from row)
+admitted-by from row most h =
+    Counts-cond most_steps 0 (is_fast (input_value from.state)) (by_registers from row.code (fast_words from.state)) (by_memory from row (input_address from.state)) (by_registers-counts from row.code (fast_words from.state) most) h
 
 -- each of the calls that there are
-admitted-counts : (from : Origin) (code : ℕ) → IfSome (row_of code) (λ row. Counts most_steps 0 (admitted from row))
-admitted-counts from code =
+admitted-counts : (from : Origin) (code : ℕ) → from.vps ≤ 8 → IfSome (row_of code) (λ row. Counts most_steps 0 (admitted from row))
+admitted-counts from code most =
     let address = input_address from.state in
     let past = past-few (start_of from) (count_of from) in
     let few = set_words-few (start_of from) (past_of from) past in
     let pages = page_words-few (start_of from) (past_of from) past in
     each-row (λ row. Counts most_steps 0 (admitted from row)) code
-    (admitted-by from flush_row (by_memory-counts from flush_row address (λ n header words le. left_for-counts from 0x0002 (n + 24 / 8 + words_between 0 (start_of from) (past_of from)) header words (omega (arith, le)))))
-    (admitted-by from flush_list_row (by_memory-counts from flush_list_row address (λ n header words le. left_for-counts from 0x0003 (n + 24 / 8 + words_between 0 (start_of from) (past_of from)) header words (omega (arith, le)))))
-    (admitted-by from modify_row (by_memory-counts from modify_row address (λ n header words le. left_for-counts from 0x000C (n + 16 / 8 + words_between 8 (start_of from) (past_of from)) header words (omega (arith, le, pages)))))
-    (admitted-by from partition_row (by_memory-counts from partition_row address (λ n header words le. left_for-counts from 0x000D (n + 16 / 8 + words_between 0 (start_of from) (past_of from)) header words (omega (arith, le)))))
-    (admitted-by from level_row (by_memory-counts from level_row address (λ n header words le. left_for-counts from 0x000F (n + 240 / 8 + words_between 0 (start_of from) (past_of from)) header words (omega (arith, le)))))
-    (admitted-by from get_row (by_memory-counts from get_row address (λ n header words le. gets_by-counts from header words (header_refusal from header) (n + 16 / 8 + words_between 4 (start_of from) (past_of from)) (omega (arith, le)))))
-    (admitted-by from set_row (by_memory-counts from set_row address (λ n header words le. sets_by-counts from header words (header_refusal from header) (n + 16 / 8 + words_between 32 (start_of from) (past_of from)) (omega (arith, le, few)))))
+    (admitted-by from flush_row most (by_memory-counts from flush_row address (λ n header words le. left_for-counts from 0x0002 (n + 24 / 8 + words_between 0 (start_of from) (past_of from)) header words (omega (arith, le)))))
+    (admitted-by from flush_list_row most (by_memory-counts from flush_list_row address (λ n header words le. left_for-counts from 0x0003 (n + 24 / 8 + words_between 0 (start_of from) (past_of from)) header words (omega (arith, le)))))
+    (admitted-by from interrupt_row most (by_memory-counts from interrupt_row address (λ n header words le. λ x. interrupts-counts from header (suc (n + 16 / 8 + words_between 0 (start_of from) (past_of from))) most (omega (arith, le)))))
+    (admitted-by from modify_row most (by_memory-counts from modify_row address (λ n header words le. left_for-counts from 0x000C (n + 16 / 8 + words_between 8 (start_of from) (past_of from)) header words (omega (arith, le, pages)))))
+    (admitted-by from partition_row most (by_memory-counts from partition_row address (λ n header words le. left_for-counts from 0x000D (n + 16 / 8 + words_between 0 (start_of from) (past_of from)) header words (omega (arith, le)))))
+    (admitted-by from level_row most (by_memory-counts from level_row address (λ n header words le. left_for-counts from 0x000F (n + 240 / 8 + words_between 0 (start_of from) (past_of from)) header words (omega (arith, le)))))
+    (admitted-by from get_row most (by_memory-counts from get_row address (λ n header words le. gets_by-counts from header words (header_refusal from header) (n + 16 / 8 + words_between 4 (start_of from) (past_of from)) (omega (arith, le)))))
+    (admitted-by from set_row most (by_memory-counts from set_row address (λ n header words le. sets_by-counts from header words (header_refusal from header) (n + 16 / 8 + words_between 32 (start_of from) (past_of from)) (omega (arith, le, few)))))
+    (admitted-by from start_row most (by_memory-counts from start_row address (λ n header words le. left_for-counts from 0x0099 (n + 240 / 8 + words_between 0 (start_of from) (past_of from)) header words (omega (arith, le)))))
 
 by_refusal-counts : (from : Origin) (row : Option Row) (refusal : Option HvStatus) → IfSome row (λ r. Counts most_steps 0 (admitted from r)) → Counts most_steps 0 (by_refusal from row refusal)
 by_refusal-counts from row (Some status) h = omega arith
 by_refusal-counts from None None h = omega arith
 by_refusal-counts from (Some row) None h = h
 
-hypercall-counts : (from : Origin) → Counts most_steps 0 (hypercall_tree from)
-hypercall-counts from =
+hypercall-counts : (from : Origin) → from.vps ≤ 8 → Counts most_steps 0 (hypercall_tree from)
+hypercall-counts from most =
     let value = input_value from.state in
     let row = row_of (code_in value) in
     let refusal = input_refusal from.pages row value (input_address from.state) (output_address from.state) in
-    Counts-cond most_steps 0 (privilege_of from.state == 0) (by_refusal from row refusal) (Ends (faulted from Undefined)) (by_refusal-counts from row refusal (admitted-counts from (code_in value))) (omega arith)
+    Counts-cond most_steps 0 (privilege_of from.state == 0) (by_refusal from row refusal) (Ends (faulted from Undefined)) (by_refusal-counts from row refusal (admitted-counts from (code_in value) most)) (omega arith)
 
-pub attempt-counts : (from : Origin) (op : Op) → Counts most_steps 0 (attempt from op)
-attempt-counts from Hypercall = hypercall-counts from
-attempt-counts from (Load name gva) = by_access-counts from (loaded from.state name) (goal_of from.pages from.state Read true gva.0 0) (λ grant. omega arith)
-attempt-counts from (Store gva what) = by_access-counts from (passed from.state) (goal_of from.pages from.state Write true gva.0 (operand from.state what)) (λ grant. omega arith)
-attempt-counts from (Exec gva) = by_access-counts from (passed from.state) (goal_of from.pages from.state Execute false gva.0 0) (λ grant. omega arith)
-attempt-counts from (Spin gva value) = by_access-counts from (spun from.state value) (goal_of from.pages from.state Read true gva.0 0) (λ grant. spun-no (grant.value == value) from.state (gone_on from.state) grant)
-attempt-counts from VtlCall = Counts-cond most_steps 0 (may_call from.state) (in_own_access (told_on (assist_page from.pages from.state) by_call) (plain from (called from.state))) (Ends (faulted from Undefined)) (told-counts (assist_page from.pages from.state) by_call 0 _ (omega arith)) (omega arith)
-attempt-counts from VtlReturn = Counts-cond most_steps 0 (may_return from.state) (returns from (restored_from from.pages from.state)) (Ends (faulted from Undefined)) (returns-counts from (restored_from from.pages from.state)) (omega arith)
-attempt-counts from Poll = λ a. λ b. λ c. λ d. λ e. λ f. λ g. λ h. polled_on-counts from _
-attempt-counts from ops.Eom = Counts-cond most_steps 0 (is_zero from.state.active) (Ends (eom_outcome from None)) (eom_on from (message_page from.pages from.state) from.controllers.waiting) (let most = eom_outcome-most from None in omega (arith, most)) (eom_on-counts from (message_page from.pages from.state) from.controllers.waiting)
-attempt-counts from (Set name value) = set_tree-counts from name value
-attempt-counts from (Get name) = get_tree-counts from name
-attempt-counts from _ = omega arith
+pub attempt-counts : (from : Origin) (op : Op) → from.vps ≤ 8 → Counts most_steps 0 (attempt from op)
+attempt-counts from Hypercall few = hypercall-counts from few
+attempt-counts from (Load name gva) few = by_access-counts from (loaded from.state name) (goal_of from.pages from.state Read true gva.0 0) (λ grant. omega arith)
+attempt-counts from (Store gva what) few = by_access-counts from (passed from.state) (goal_of from.pages from.state Write true gva.0 (operand from.state what)) (λ grant. omega arith)
+attempt-counts from (Exec gva) few = by_access-counts from (passed from.state) (goal_of from.pages from.state Execute false gva.0 0) (λ grant. omega arith)
+attempt-counts from (Spin gva value) few = by_access-counts from (spun from.state value) (goal_of from.pages from.state Read true gva.0 0) (λ grant. spun-no (grant.value == value) from.state (gone_on from.state) grant)
+attempt-counts from VtlCall few = Counts-cond most_steps 0 (may_call from.state) (in_own_access (told_on (assist_page from.pages from.state) by_call) (plain from (called from.state))) (Ends (faulted from Undefined)) (told-counts (assist_page from.pages from.state) by_call 0 _ (omega arith)) (omega arith)
+attempt-counts from VtlReturn few = Counts-cond most_steps 0 (may_return from.state) (returns from (restored_from from.pages from.state)) (Ends (faulted from Undefined)) (returns-counts from (restored_from from.pages from.state)) (omega arith)
+attempt-counts from Poll few = λ a. λ b. λ c. λ d. λ e. λ f. λ g. λ h. polled_on-counts from _
+attempt-counts from ops.Eom few = Counts-cond most_steps 0 (is_zero from.state.active) (Ends (eom_outcome from None)) (eom_on from (message_page from.pages from.state) from.controllers.waiting) (let most = eom_outcome-most from None in omega (arith, most)) (eom_on-counts from (message_page from.pages from.state) from.controllers.waiting)
+attempt-counts from (Set name value) few = set_tree-counts from name value
+attempt-counts from (Get name) few = get_tree-counts from name
+attempt-counts from _ few = omega arith
+
+-- so does a start
+pub start-counts : (from : Origin) → Counts most_steps 0 (start_tree from)
+start-counts from = λ x. λ reply. omega arith
 
 follow-Ends : {A : Type 0} (a : A) (xs : List ℕ) → follow (Ends a) xs ≡ Ends a
 follow-Ends a [] = refl

@@ -10,15 +10,17 @@ use Rattle.vsm_base.specs.declared.status.HvStatus.{HvStatus}
 use Rattle.vsm_base.specs.declared.status.TheConstants.HvStatus as statuses
 use Rattle.vsm_core.specs.Blocks.{ask, clear, round}
 use Rattle.vsm_core.specs.Calls.{first_failed}
-use Rattle.vsm_core.specs.Partition.{named, index_of, enable_partition_checks, enable_vp_checks}
+use Rattle.vsm_core.specs.Partition.{standing, named, index_of, target_of, enable_partition_checks, enable_vp_checks, start_checks}
 use Rattle.vsm_core.specs.Protection.{IsSlice, owed, map_flags, modify_checks, page_refusals, config_checks, ask_of, asks_for, asks_for_all}
 use Rattle.vsm_core.specs.Reps.{acting, refusing}
-use Rattle.vsm_core.specs.Served.{Service, refused, judged, enable_partition, enable_vp, with_round, modify, modify_some, write_config, serve_call, serve}
+use Rattle.vsm_core.specs.Served.{Service, refused, judged, enable_partition, enable_vp, start_vp, fetch_of, with_round, modify, modify_some, write_config, serve_call, serve}
 use Rattle.vsm_core.specs.Status.{protects, default_mask}
+use Rattle.vsm_core.specs.Targets.{level_of}
 use Rattle.vsm_core.specs.declared.journal.Entry.TheVariants as entries
+use Rattle.vsm_core.specs.declared.partition_state.Accepted.{Accepted}
 use Rattle.vsm_core.specs.declared.partition_state.PartitionState.{PartitionState}
 use Rattle.vsm_core.specs.declared.request.PartCall.{PartCall}
-use Rattle.vsm_core.specs.declared.request.PartCall.TheVariants.{EnablePartition, EnableVp, Modify, Flush, ReadStatus, ReadConfig, WriteConfig}
+use Rattle.vsm_core.specs.declared.request.PartCall.TheVariants.{EnablePartition, EnableVp, Start, Modify, Flush, ReadStatus, ReadConfig, WriteConfig, Fetch}
 use Rattle.vsm_core.specs.declared.request.Request.{Request}
 use Rattle.vsm_core.proofs.ServedBlocks.{config-keeps}
 
@@ -80,11 +82,21 @@ write-few : (s : PartitionState) (by : VpIndex) (value : ℕ) (refusal : Option 
 write-few s by value None is = config-few (not (protects s.config) && protects value) s by value refl (config-keeps s.config value is)
 write-few s by value (Some status) is = refused-few s by 0 status
 
+start-few : (s : PartitionState) (by : VpIndex) (vp : ℕ) (level : Vtl) (context : List ℕ) → IsFew s (start_vp s by vp level context)
+start-few s by vp level context = omega arith
+
+fetch-few : (s : PartitionState) (by : VpIndex) (start : Option Accepted) → IsFew s (fetch_of s by start)
+fetch-few s by None = refused-few s by 0 statuses.INVALID_VP_STATE
+fetch-few s by (Some start) = omega arith
+
 call-few : (s : PartitionState) (by : VpIndex) (level : Vtl) (call : PartCall) → IsSlice call → IsFew s (serve_call s by level call)
 call-few s by level (EnablePartition words) slice = judged-few s by 0 (first_failed (enable_partition_checks s words)) (enable_partition s by) (omega arith)
 call-few s by level (EnableVp words) slice =
     let vp = named by.0 (index_of words) in
     judged-few s by 0 (first_failed (enable_vp_checks s by.0 level vp words (drop 2 words))) (enable_vp s by vp (drop 2 words)) (omega arith)
+call-few s by level (Start words) slice =
+    let vp = named by.0 (index_of words) in
+    judged-few s by 0 (first_failed (start_checks s level vp words (drop 2 words))) (start_vp s by vp (level_of (target_of words)) (drop 2 words)) (start-few s by vp (level_of (target_of words)) (drop 2 words))
 call-few s by level (Modify header pages start total) slice =
     let refusals = page_refusals s.pages pages.items in
     judged-few s by start (first_failed (modify_checks s level header)) (modify s by (map_flags header) pages.items start)
@@ -93,7 +105,7 @@ call-few s by level (Flush total) slice = round-few s by [] statuses.SUCCESS tot
 call-few s by level ReadStatus slice = omega arith
 call-few s by level ReadConfig slice = omega arith
 call-few s by level (WriteConfig value) slice = write-few s by value (first_failed (config_checks s.config value)) refl
-call-few s by level _ slice = refused-few s by 0 statuses.INVALID_HYPERCALL_CODE
+call-few s by level Fetch slice = fetch-few s by (standing s by.0).start
 
 pub few-entries : (s : PartitionState) (r : Request) → IsSlice r.call → IsFew s (serve s r)
 few-entries s r slice = call-few s r.by r.level r.call slice

@@ -10,6 +10,7 @@ use Rattle.vsm_base.specs.declared.places.Access.TheVariants.{Read, Write, Execu
 use Rattle.vsm_base.specs.declared.places.Vtl.{Vtl}
 use Rattle.vsm_base.specs.declared.places.Vtl.TheVariants.{Zero, One}
 use Rattle.vsm_base.specs.declared.status.HvStatus.{HvStatus}
+use Rattle.vsm_base.specs.declared.status.TheConstants.HvStatus as statuses
 use Rattle.vsm_core.specs.declared.event.Event.{Event}
 use Rattle.vsm_core.specs.declared.event.Event.TheVariants as events
 use Rattle.vsm_core.specs.declared.journal.Entry.{Entry}
@@ -32,15 +33,16 @@ use Rattle.vsm_core.specs.declared.register.CallRegister.TheVariants.{Kept}
 use Rattle.vsm_core.specs.declared.request.PartCall.{PartCall}
 use Rattle.vsm_core.specs.declared.request.Reply.{Reply}
 use Rattle.vsm_core.specs.Access.{Goal, Decision, Grants, Denies, Faults, access, start_fault}
-use Rattle.vsm_core.specs.Attempt.{attempt, begun, leaves, left_with, in_own_access, told_on, by_slot, posting, tells, refused, hit_tells, hits_on, intercepted, is_write_hit, is_read_hit, set_tree, get_tree, goal_of, returns, is_wanted, wanted_outcome, unwanted_outcome, polled_on, sending, sends, eom_on, behind_page_mask, requests, left_for, puts_out, looked_by, gets_or_asks, gets_by, sets_or_asks, sets_by, by_input, reads_slice, reads_input, behind_output, by_memory, admitted, by_refusal, hypercall_tree}
-use Rattle.vsm_core.specs.Calls.{Row, rows, row_of, code_in, is_fast, result_value}
+use Rattle.vsm_core.specs.Attempt.{attempt, begun, leaves, left_with, in_own_access, told_on, by_slot, posting, tells, refused, hit_tells, hits_on, intercepted, is_write_hit, is_read_hit, set_tree, get_tree, goal_of, returns, is_wanted, wanted_outcome, unwanted_outcome, polled_on, sending, sends, eom_on, behind_page_mask, requests, left_for, puts_out, looked_by, gets_or_asks, gets_by, sets_or_asks, sets_by, interrupts_by, interrupts, by_input, reads_slice, reads_input, behind_output, by_memory, by_registers, admitted, by_refusal, hypercall_tree}
+use Rattle.vsm_core.specs.Calls.{Row, rows, row_of, code_in, is_fast, first_failed, result_value}
 use Rattle.vsm_core.specs.Contexts.{enabled_by, has_level, is_legal_context, values_of, with_context}
 use Rattle.vsm_core.specs.Controllers.{Controllers, message_page, writes, eom_by, waiting_then}
 use Rattle.vsm_core.specs.Fills.{Cached}
 use Rattle.vsm_core.specs.Hypercalls.{input_value, input_address, output_address, has_output, fast_words, input_refusal, own_context, replied, result_outcome, with_result}
+use Rattle.vsm_core.specs.Interrupts.{vector_in, processors_in, interrupted_level, interrupt_checks, those_in, interrupt_steps}
 use Rattle.vsm_core.specs.Keeps.{EndsIn, KeepsOther, SetsNone, other_level, after_attempts, IsAway}
 use Rattle.vsm_core.specs.Outcomes.{Origin, Outcome, Refusal, faulted, plain, outcome_at, fills, loaded, passed, spun, set_outcome, get_outcome, empties, note_of, register_note, held_outcome, denied_outcome, hit_outcome, next_vector, vector_or_zero, eom_outcome}
-use Rattle.vsm_core.specs.Processor.{Vp, answered, asking, attempted, came_to, does_all, marked_or_ended, operation_at, origin_of, saw, settled, tree_of}
+use Rattle.vsm_core.specs.Processor.{Vp, Did, answered, asking, attempted, came_to, does_all, marked_or_ended, operation_at, origin_of, saw, settled, tree_of, wakes}
 use Rattle.vsm_core.specs.RegisterCalls.{Setting, all_emptied, all_set, count_of, get_refusals, got_slice, header_refusal, look_in, past_of, put_at, register_checks, register_of, set_named, set_one, set_refusals, settings, write_in, slice_end, slice_numbers, slice_outcome, slice_output, start_of, value_words}
 use Rattle.vsm_core.specs.Registers.{Registers, is_legal, private_of, private_place, put as put_in, shared_place, with_private}
 use Rattle.vsm_core.specs.Reps.{RepEnd, Refused, GoesOn, Complete, acting, first_word, replied_end, with_start, words_between}
@@ -49,7 +51,7 @@ use Rattle.vsm_core.specs.State.{State, get, put, put_legal, gone_to, gone_on, m
 use Rattle.vsm_core.specs.Steps.{made}
 use Rattle.vsm_core.specs.Switch.{assist_page, by_call, by_interrupt, called, entered, is_zero, may_call, may_enter, may_return, restored_from, returned, with_active, with_pair}
 use Rattle.vsm_core.specs.Targets.{is_above, target_level}
-use Rattle.vsm_core.specs.Tree.{Tree, Ends, Asks, Wants, WordStep}
+use Rattle.vsm_core.specs.Tree.{Tree, Ends, Asks, Wants, WordStep, Leaving}
 use Rattle.vsm_core.specs.Whole.{Flat, answer_in, flat_after, with_entries}
 use Rattle.vsm_core.proofs.Checks.{NoneFails, none-fails}
 use Rattle.vsm_core.proofs.KeptLevels.{EndsIn-then_, EndsIn-cond, EndsIn-asks_all, EndsIn-reads, EndsIn-by_slot, Q-cond, Stays, same-stays, stays-then, put-stays, put_legal-stays, gone_to-stays, gone_on-stays, put-then-on, legal-then-on, keeps-so, keeps-same}
@@ -269,12 +271,25 @@ EndsIn-if : (Q : Outcome → Type 0) (b : Bool) (t u : Tree Outcome) → (b ≡ 
 EndsIn-if Q true t u h g = h refl
 EndsIn-if Q false t u h g = g
 
+-- posts change nothing of their own processor
+interrupts_by-so : (from : Origin) (header : List ℕ) (refusal : Option HvStatus) → EndsIn (Keeps from.state) (interrupts_by from header refusal)
+interrupts_by-so from header (Some status) = result-so from from.state status 0 (same-stays from.state)
+interrupts_by-so from header None =
+    EndsIn-asks_all (Keeps from.state) (interrupt_steps (interrupted_level from.state.active header) (vector_in header) (those_in (processors_in header) 0 from.vps)) (Ends (result_outcome from from.state statuses.SUCCESS 0))
+    (result-so from from.state statuses.SUCCESS 0 (same-stays from.state))
+
+interrupts-so : (from : Origin) (header : List ℕ) → EndsIn (Keeps from.state) (interrupts from header)
+interrupts-so from header = interrupts_by-so from header (first_failed (interrupt_checks from.vps from.state.active header))
+
 input-so : (from : Origin) (code : ℕ) (header words : List ℕ) → Spares from.state code → EndsIn (Keeps from.state) (by_input from code header words)
 input-so from code header words spares =
     let set : Tree Outcome = sets_by from header words (header_refusal from header) in
+    let posts : Tree Outcome = Asks Leaving (λ _. interrupts from header) in
     let asked : Tree Outcome = left_for from code header words in
-    EndsIn-cond (Keeps from.state) (code == 0x0050) (gets_by from header words (header_refusal from header)) (cond (code == 0x0051) set asked) (gets_by-so from header words (header_refusal from header))
-    (EndsIn-if (Keeps from.state) (code == 0x0051) set asked (λ e. set-registers-so from header words (is-zero from.state.active code spares e)) (λ x. requests-so from code header words))
+    let others : Tree Outcome = cond (code == 0x000B) posts asked in
+    EndsIn-cond (Keeps from.state) (code == 0x0050) (gets_by from header words (header_refusal from header)) (cond (code == 0x0051) set others) (gets_by-so from header words (header_refusal from header))
+    (EndsIn-if (Keeps from.state) (code == 0x0051) set others (λ e. set-registers-so from header words (is-zero from.state.active code spares e))
+    (EndsIn-cond (Keeps from.state) (code == 0x000B) posts asked (λ x. interrupts-so from header) (λ x. requests-so from code header words)))
 
 reads_slice-so : (from : Origin) (row : Row) (address : ℕ) (header : List ℕ) → Spares from.state row.code → EndsIn (Keeps from.state) (reads_slice from row address header)
 reads_slice-so from row address header spares =
@@ -294,9 +309,12 @@ by_memory-so from row address spares = λ a. λ generation.
     let input = reads_input from row address in
     page-so from.state.active from Read address generation (behind_output from row generation input) (output-so from row generation input (reads_input-so from row address spares))
 
+by_registers-so : (from : Origin) (code : ℕ) (header : List ℕ) → EndsIn (Keeps from.state) (by_registers from code header)
+by_registers-so from code header = EndsIn-cond (Keeps from.state) (code == 0x000B) (interrupts from header) (requests from code header []) (interrupts-so from header) (requests-so from code header [])
+
 admitted-so : (from : Origin) (row : Row) → Spares from.state row.code → EndsIn (Keeps from.state) (admitted from row)
 admitted-so from row spares =
-    EndsIn-cond (Keeps from.state) (is_fast (input_value from.state)) (requests from row.code (fast_words from.state) []) (by_memory from row (input_address from.state)) (requests-so from row.code (fast_words from.state) []) (by_memory-so from row (input_address from.state) spares)
+    EndsIn-cond (Keeps from.state) (is_fast (input_value from.state)) (by_registers from row.code (fast_words from.state)) (by_memory from row (input_address from.state)) (by_registers-so from row.code (fast_words from.state)) (by_memory-so from row (input_address from.state) spares)
 
 by_refusal-so : (from : Origin) (row : Option Row) (refusal : Option HvStatus) → ((r : Row) → row ≡ Some r → Spares from.state r.code) → EndsIn (Keeps from.state) (by_refusal from row refusal)
 by_refusal-so from row (Some status) spares = result-so from from.state status 0 (same-stays from.state)
@@ -410,11 +428,18 @@ tree-keeps : (from : Origin) (op : Option Op) → (op ≡ Some Hypercall → Spa
 tree-keeps from None spares = faulted-so from Undefined
 tree-keeps from (Some op) spares = attempt-keeps from op (λ e. spares (ap Some e))
 
-attempted-keeps : (program : Program) (v : Vp) (partition : PartitionState) (flat : Flat) → (operation_at program v.state ≡ Some Hypercall → Spares v.state (code_in (input_value v.state))) → KeepsOther v.state (attempted program v partition flat).vp.state
+acts-keeps : (b : Bool) (s : State) (acted woken : Did Flat) → b ≡ true → KeepsOther s acted.vp.state → KeepsOther s (cond b acted woken).vp.state
+acts-keeps true s acted woken is h = h
+acts-keeps false s acted woken is h = cc
+
+attempted-keeps : (program : Program) (v : Vp) (partition : PartitionState) (flat : Flat) → v.started ≡ true → (operation_at program v.state ≡ Some Hypercall → Spares v.state (code_in (input_value v.state))) → KeepsOther v.state (attempted program v partition flat).vp.state
 unfolding attempted
-attempted-keeps program v partition flat spares =
+attempted-keeps program v partition flat started spares =
     let op = operation_at program v.state in
-    did-so (answer_in v.limits v.number) (flat_after v.limits v.number) with_entries partition op v flat (tree_of (origin_of v) op) v.state refl (tree-keeps (origin_of v) op spares)
+    let acted : Did Flat = does_all (answer_in v.limits v.number) (flat_after v.limits v.number) with_entries partition op v flat (tree_of (origin_of v) op) in
+    let woken : Did Flat = wakes (answer_in v.limits v.number) (flat_after v.limits v.number) with_entries partition v flat in
+    acts-keeps v.started v.state acted woken started
+    (did-so (answer_in v.limits v.number) (flat_after v.limits v.number) with_entries partition op v flat (tree_of (origin_of v) op) v.state refl (tree-keeps (origin_of v) op spares))
 
 other-twice : (level : Vtl) → other_level (other_level level) ≡ level
 other-twice Zero = refl
@@ -429,6 +454,6 @@ pub away-keeps : (level : Vtl) (program : Program) (v : Vp) (es : List (Partitio
 away-keeps level program v [] away = refl
 away-keeps level program v (e ∷ es) away =
     let next = (attempted program v e.0 e.1).vp in
-    let own : other_level v.state.active ≡ level = ap other_level away.0 ∙ other-twice level in
-    let kept = attempted-keeps program v e.0 e.1 (spares-by level program v away.0 away.2) away.1 in
-    away-keeps level program next es away.3 ∙ subst (λ l. private_of next.state.registers l ≡ private_of v.state.registers l) own kept
+    let own : other_level v.state.active ≡ level = ap other_level away.1 ∙ other-twice level in
+    let kept = attempted-keeps program v e.0 e.1 away.0 (spares-by level program v away.1 away.3) away.2 in
+    away-keeps level program next es away.4 ∙ subst (λ l. private_of next.state.registers l ≡ private_of v.state.registers l) own kept

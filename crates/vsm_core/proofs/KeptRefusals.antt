@@ -8,6 +8,7 @@ use Rattle.vsm_base.specs.declared.places.Vtl.{Vtl}
 use Rattle.vsm_base.specs.declared.status.HvStatus.{HvStatus}
 use Rattle.vsm_base.specs.declared.status.TheConstants.HvStatus as statuses
 use Rattle.vsm_core.specs.declared.journal.Entry.TheVariants as entries
+use Rattle.vsm_core.specs.declared.partition_state.Accepted.{Accepted}
 use Rattle.vsm_core.specs.declared.partition_state.PartitionState.{PartitionState}
 use Rattle.vsm_core.specs.declared.request.PartCall.{PartCall}
 use Rattle.vsm_core.specs.declared.request.PartCall.TheVariants.{EnablePartition, EnableVp, Start, Modify, Flush, ReadStatus, ReadConfig, WriteConfig, Fetch}
@@ -20,13 +21,14 @@ use Rattle.vsm_core.specs.Fills.{Cached}
 use Rattle.vsm_core.specs.Hypercalls.{refused_call, replied, result_with}
 use Rattle.vsm_core.specs.Keeps.{KeepsTheRest, RefusesAll, RefusesRest, asks_of}
 use Rattle.vsm_core.specs.Outcomes.{Origin}
-use Rattle.vsm_core.specs.Partition.{named, index_of, enable_partition_checks, enable_vp_checks}
+use Rattle.vsm_core.specs.Partition.{standing, named, index_of, target_of, enable_partition_checks, enable_vp_checks, start_checks}
 use Rattle.vsm_core.specs.Protection.{map_flags, modify_checks, page_refusal, page_refusals, config_checks, asks_for}
 use Rattle.vsm_core.specs.RegisterCalls.{count_of, slice_outcome}
 use Rattle.vsm_core.specs.Reps.{Refused, acting, refusing, unrefused_end, replied_end}
-use Rattle.vsm_core.specs.Served.{Service, refused, judged, enable_partition, enable_vp, with_round, modify, modify_some, write_config, serve_call, serve}
+use Rattle.vsm_core.specs.Served.{Service, refused, judged, enable_partition, enable_vp, start_vp, fetch_of, with_round, modify, modify_some, write_config, serve_call, serve}
 use Rattle.vsm_core.specs.State.{State, put_legal}
 use Rattle.vsm_core.specs.Status.{protects}
+use Rattle.vsm_core.specs.Targets.{level_of}
 use Rattle.vsm_core.proofs.KeptLevels.{stays-then, put_legal-stays, gone_on-stays}
 use Rattle.vsm_core.proofs.KeptRegisters.{gone_on-keeps, put_legal-rax}
 
@@ -100,6 +102,10 @@ written false x y h g = g
 write-well : (s : PartitionState) (by : VpIndex) (value : ℕ) → (write_config s by value).reply.status ≡ statuses.SUCCESS
 write-well s by value = written (not (protects s.config) && protects value) _ _ refl refl
 
+fetch-is : (s : PartitionState) (by : VpIndex) (start : Option Accepted) → (fetch_of s by start).reply.status ≢ statuses.SUCCESS → Refuses s by [] (fetch_of s by start)
+fetch-is s by None other = inl (refused-is s by 0 statuses.INVALID_VP_STATE)
+fetch-is s by (Some start) other = absurd (other refl)
+
 call-is : (s : PartitionState) (by : VpIndex) (level : Vtl) (call : PartCall) → (serve_call s by level call).reply.status ≢ statuses.SUCCESS → Refuses s by (asks_of s call) (serve_call s by level call)
 call-is s by level (EnablePartition words) other =
     judged-is s by 0 [] (first_failed (enable_partition_checks s words)) (enable_partition s by) (λ no. absurd (no refl)) other
@@ -116,8 +122,10 @@ call-is s by level ReadStatus other = absurd (other refl)
 call-is s by level ReadConfig other = absurd (other refl)
 call-is s by level (WriteConfig value) other =
     judged-is s by 0 [] (first_failed (config_checks s.config value)) (write_config s by value) (λ no. absurd (no (write-well s by value))) other
-call-is s by level (Start words) other = inl (refused-is s by 0 _)
-call-is s by level Fetch other = inl (refused-is s by 0 _)
+call-is s by level (Start words) other =
+    let vp = named by.0 (index_of words) in
+    judged-is s by 0 [] (first_failed (start_checks s level vp words (drop 2 words))) (start_vp s by vp (level_of (target_of words)) (drop 2 words)) (λ no. absurd (no refl)) other
+call-is s by level Fetch other = fetch-is s by (standing s by.0).start other
 
 pub refusal-is : (s : PartitionState) (r : Request) → (serve s r).reply.status ≢ statuses.SUCCESS → IsRefusal s r.by (serve s r) ⊎ IsRest s r.by (asks_of s r.call) (serve s r)
 refusal-is s r other = call-is s r.by r.level r.call other

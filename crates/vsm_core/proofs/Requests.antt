@@ -7,6 +7,7 @@ use Rattle.vsm_base.specs.declared.places.Access.TheVariants.{Read, Write, Execu
 use Rattle.vsm_base.specs.declared.places.Vtl.{Vtl}
 use Rattle.vsm_base.specs.declared.places.Vtl.TheVariants.{Zero, One}
 use Rattle.vsm_base.specs.declared.status.HvStatus.{HvStatus}
+use Rattle.vsm_base.specs.declared.status.TheConstants.HvStatus as statuses
 use Rattle.vsm_core.specs.declared.mark.Grant.{Grant}
 use Rattle.vsm_core.specs.declared.mark.GuestFault.{GuestFault}
 use Rattle.vsm_core.specs.declared.mark.GuestFault.TheVariants.{Unmapped, Page, Undefined}
@@ -21,11 +22,12 @@ use Rattle.vsm_core.specs.declared.request.PartCall.{PartCall}
 use Rattle.vsm_core.specs.declared.request.Reply.{Reply}
 use Rattle.vsm_core.specs.declared.request.Request.{Request}
 use Rattle.vsm_core.specs.Access.{Goal, Decision, Grants, Denies, Faults, data_step, covers, behind_mask, reaches, by_mask, at_page, entry_step, by_table_mask, at_table, tables, access, query_of, start_fault}
-use Rattle.vsm_core.specs.Attempt.{attempt, by_access, begun, leaves, left_with, in_own_access, told_on, by_slot, posting, tells, refused, hit_tells, hits_on, intercepted, is_write_hit, is_read_hit, set_tree, get_tree, goal_of, returns, is_wanted, wanted_outcome, unwanted_outcome, polled_on, sending, sends, eom_on, behind_page_mask, requests, left_for, served, puts_out, looked_by, gets_or_asks, gets_by, sets_or_asks, sets_by, by_input, reads_slice, reads_input, behind_output, by_memory, admitted, by_refusal, hypercall_tree}
-use Rattle.vsm_core.specs.Calls.{Row, row_of, code_in, is_fast}
+use Rattle.vsm_core.specs.Attempt.{attempt, by_access, begun, leaves, left_with, in_own_access, told_on, by_slot, posting, tells, refused, hit_tells, hits_on, intercepted, is_write_hit, is_read_hit, set_tree, get_tree, goal_of, returns, is_wanted, wanted_outcome, unwanted_outcome, polled_on, sending, sends, eom_on, behind_page_mask, requests, left_for, served, puts_out, looked_by, gets_or_asks, gets_by, sets_or_asks, sets_by, interrupts_by, interrupts, by_input, reads_slice, reads_input, behind_output, by_memory, by_registers, admitted, by_refusal, hypercall_tree}
+use Rattle.vsm_core.specs.Calls.{Row, row_of, code_in, is_fast, first_failed}
 use Rattle.vsm_core.specs.Controllers.{Controllers, message_page, writes}
 use Rattle.vsm_core.specs.Fills.{Cached, Fill, Translation}
 use Rattle.vsm_core.specs.Hypercalls.{input_value, input_address, output_address, has_output, fast_words, input_refusal, call_of, asked_of, request_of, replied, result_outcome}
+use Rattle.vsm_core.specs.Interrupts.{vector_in, processors_in, interrupted_level, interrupt_checks, those_in, interrupt_steps}
 use Rattle.vsm_core.specs.Keeps.{EndsIn}
 use Rattle.vsm_core.specs.Outcomes.{Origin, Outcome, Refusal, faulted, plain, loaded, passed, spun, set_outcome, get_outcome, note_of, register_note, held_outcome, denied_outcome, hit_outcome, eom_outcome}
 use Rattle.vsm_core.specs.Processor.{tree_of}
@@ -35,7 +37,7 @@ use Rattle.vsm_core.specs.Reps.{RepEnd, Refused, GoesOn, Complete, first_word, w
 use Rattle.vsm_core.specs.State.{State, operand, privilege_of}
 use Rattle.vsm_core.specs.Switch.{may_call, may_return, may_enter, called, is_zero, assist_page, restored_from, by_call, by_interrupt}
 use Rattle.vsm_core.specs.Targets.{target_level}
-use Rattle.vsm_core.specs.Tree.{Tree, Ends, Asks, Wants, WordStep, then_, asks_all, reads, after, follow, by_reply, followed}
+use Rattle.vsm_core.specs.Tree.{Tree, Ends, Asks, Wants, WordStep, Leaving, then_, asks_all, reads, after, follow, by_reply, followed}
 use Rattle.vsm_core.specs.Walk.{Walked, Need, Mapped, Refused as Faulty, walk}
 use Rattle.vsm_core.proofs.KeptLevels.{EndsIn-cond, EndsIn-asks_all, EndsIn-by_slot}
 use Rattle.vsm_core.proofs.Slices.{IsPaged, IfSlice, paged-row, read-slice, fast-slice, look-slice, write-slice}
@@ -222,6 +224,14 @@ module _ (P : Request → (Reply → Tree Outcome) → Type 0) (from : Origin) w
       let note = register_note from false name 0 in
       cond-asked P (is_read_hit from name) (intercepted from note) (Ends (get_outcome from name)) (intercepted-asked note) tt
 
+  interrupts_by-asked : (header : List ℕ) (refusal : Option HvStatus) → Asked P (interrupts_by from header refusal)
+  interrupts_by-asked header (Some status) = tt
+  interrupts_by-asked header None =
+      asks_all-asked P (interrupt_steps (interrupted_level from.state.active header) (vector_in header) (those_in (processors_in header) 0 from.vps)) (Ends (result_outcome from from.state statuses.SUCCESS 0)) tt
+
+  interrupts-asked : (header : List ℕ) → Asked P (interrupts from header)
+  interrupts-asked header = interrupts_by-asked header (first_failed (interrupt_checks from.vps from.state.active header))
+
 -- of all that this caller asks, P holds
 module _ (P : Request → (Reply → Tree Outcome) → Type 0) (from : Origin)
     (own : (code : ℕ) (header elements : List ℕ) → IsSlice (call_of code header elements (start_of from) (count_of from)) → P (request_of from code header elements) (λ reply. Ends (served from code reply)))
@@ -252,9 +262,12 @@ module _ (P : Request → (Reply → Tree Outcome) → Type 0) (from : Origin)
   by_input-asked code header words slice =
       let get : Tree Outcome = gets_by from header words (header_refusal from header) in
       let set : Tree Outcome = sets_by from header words (header_refusal from header) in
+      let posts : Tree Outcome = Asks Leaving (λ _. interrupts from header) in
       let asks : Tree Outcome = left_for from code header words in
-      cond-asked P (code == 0x0050) get (cond (code == 0x0051) set asks) (gets_by-asked header words (header_refusal from header))
-      (cond-asked P (code == 0x0051) set asks (sets_by-asked header words (header_refusal from header)) (λ x. own code header words slice))
+      let others : Tree Outcome = cond (code == 0x000B) posts asks in
+      cond-asked P (code == 0x0050) get (cond (code == 0x0051) set others) (gets_by-asked header words (header_refusal from header))
+      (cond-asked P (code == 0x0051) set others (sets_by-asked header words (header_refusal from header))
+      (cond-asked P (code == 0x000B) posts asks (λ x. interrupts-asked P from header) (λ x. own code header words slice)))
 
   reads_slice-asked : (row : Row) (address : ℕ) (header : List ℕ) → IsPaged (start_of from) (count_of from) row → Asked P (reads_slice from row address header)
   reads_slice-asked row address header paged =
@@ -269,10 +282,14 @@ module _ (P : Request → (Reply → Tree Outcome) → Type 0) (from : Origin)
       let input = reads_input from row address in
       behind_page_mask-asked P from from.state.active Read address generation (behind_output from row generation input) (behind_output-asked P from row generation input (reads_input-asked row address paged))
 
+  by_registers-asked : (code : ℕ) (header : List ℕ) → IsSlice (call_of code header [] (start_of from) (count_of from)) → Asked P (by_registers from code header)
+  by_registers-asked code header slice =
+      cond-asked P (code == 0x000B) (interrupts from header) (requests from code header []) (interrupts-asked P from header) (own code header [] slice)
+
   admitted-asked : (row : Row) → IsPaged (start_of from) (count_of from) row → Asked P (admitted from row)
   admitted-asked row paged =
-      cond-asked P (is_fast (input_value from.state)) (requests from row.code (fast_words from.state) []) (by_memory from row (input_address from.state))
-      (own row.code (fast_words from.state) [] (fast-slice row (input_value from.state) (fast_words from.state) paged)) (by_memory-asked row (input_address from.state) paged)
+      cond-asked P (is_fast (input_value from.state)) (by_registers from row.code (fast_words from.state)) (by_memory from row (input_address from.state))
+      (by_registers-asked row.code (fast_words from.state) (fast-slice row (input_value from.state) (fast_words from.state) paged)) (by_memory-asked row (input_address from.state) paged)
 
   by_refusal-asked : (row : Option Row) (refusal : Option HvStatus) → ((r : Row) → row ≡ Some r → refusal ≡ None → IsPaged (start_of from) (count_of from) r) → Asked P (by_refusal from row refusal)
   by_refusal-asked row (Some status) paged = tt

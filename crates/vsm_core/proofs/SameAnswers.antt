@@ -1,5 +1,5 @@
 -- The shared words answer an attempt as their masks, generation, posted words and memory do.
-use Rattle.std.proofs.Common.{◌≡◌, ◌<◌, ◌≤◌, ◌+◌, ◌*◌, ℕ, Option, Some, List, [], ◌∷◌, ◌++◌, refl, sym, ap, ◌∙◌, subst, arith, slice_index, slice_set, take, drop, bit_or}
+use Rattle.std.proofs.Common.{◌≡◌, ◌<◌, ◌≤◌, ◌+◌, ◌*◌, ◌==◌, ℕ, Bool, true, false, cond, Option, Some, None, List, [], ◌∷◌, ◌++◌, refl, sym, ap, ◌∙◌, subst, arith, slice_index, slice_set, take, drop, bit_or}
 use Rattle.std.proofs.lemmas.List.{append-nil, append_assoc, take-set-le, drop-set-lt, drop-set-add, get_or-take, get_or-drop, get_or-set_other}
 use Rattle.std.proofs.Math.ListN.{length-set}
 use Rattle.std.proofs.Math.Seq.{take-set-lt}
@@ -11,20 +11,22 @@ use Rattle.vsm_core.specs.declared.event.Event.{Event}
 use Rattle.vsm_core.specs.declared.event.PendingWord.{PendingWord}
 use Rattle.vsm_core.specs.declared.event.PendingWord.TheVariants.{Start, Vectors}
 use Rattle.vsm_core.specs.Tree.{Tree, Ends, Asks, Wants, WordStep, Entering, Checking, Masking, Reading, Writing, Leaving, Posting, Taking}
+use Rattle.vsm_core.specs.declared.journal.Entry.{Entry}
 use Rattle.vsm_core.specs.declared.operation.Op.{Op}
+use Rattle.vsm_core.specs.declared.operation.Program.{Program}
 use Rattle.vsm_core.specs.declared.partition_state.PartitionState.{PartitionState}
 use Rattle.vsm_core.specs.AtOnce.{SameDid, IsInStep}
-use Rattle.vsm_core.specs.Attempt.{attempt}
 use Rattle.vsm_core.specs.Outcomes.{Outcome}
-use Rattle.vsm_core.specs.Processor.{Vp, Did, saw, asking, answered, origin_of, does_all}
+use Rattle.vsm_core.specs.Processor.{Vp, Did, saw, asking, answered, operation_at, origin_of, tree_of, does_all, wakes, acts}
 use Rattle.vsm_core.specs.Served.{answer, after, block, state_after, joined}
 use Rattle.vsm_core.specs.Steps.{MayStep, IsPending, IsVectors, phase_of, made}
 use Rattle.vsm_core.specs.Sound.{Sound, IsOver}
+use Rattle.vsm_core.specs.Starts.{start_tree}
 use Rattle.vsm_core.specs.Whole.{Flat, answer_in, flat_after, with_entries, with_posted, memory_place, posted_place}
 use Rattle.vsm_core.specs.Words.{Holds, answer_of, words_by, busy_at, posted_at, memory_at, generation_at}
 use Rattle.vsm_core.specs.Entries.{words_by_entries}
 use Rattle.vsm_core.proofs.HeldEntries.{entries-hold, entries-in-step}
-use Rattle.vsm_core.proofs.Soundness.{attempt-sound}
+use Rattle.vsm_core.proofs.Soundness.{attempt-sound, start-sound}
 
 -- a busy word is none of them
 busy_set : (limits : Limits) (p value : ℕ) (words : List ℕ) (flat : Flat) → p < limits.vps → Holds limits words flat → Holds limits (slice_set words (busy_at limits p) value) flat
@@ -111,7 +113,7 @@ journal-stays limits p flat (Posting vp word bits) = refl
 journal-stays limits p flat (Taking word) = refl
 
 step-stays : (limits : Limits) (p : ℕ) (s : PartitionState) (flat : Flat) (step : WordStep) → IsInStep limits s flat → IsInStep limits s (flat_after limits p flat step)
-step-stays limits p s flat step h = record { pages = h.pages; rounds = rw (journal-stays limits p flat step) h.rounds }
+step-stays limits p s flat step h = record { vps = h.vps; pages = h.pages; rounds = rw (journal-stays limits p flat step) h.rounds }
 
 -- both come to the same: each step is answered alike, and each request is served by the same partition
 pub same_did : (Q : List Event → Outcome → Type 0) (limits : Limits) (p : ℕ) (op : Option Op) (s : PartitionState) (v : Vp) (es : List Event) (t : Tree Outcome) (words : List ℕ) (flat : Flat) → p < limits.vps → Sound limits Q es t → IsInStep limits s flat → Holds limits words flat
@@ -127,10 +129,43 @@ same_did Q limits p op s v es (Wants q k) words flat low sound step h =
     let r = same_did Q limits p op (after s q) (answered reply (asking op v)) es (k reply) (words_by_entries limits words (block s q)) (with_entries flat (block s q)) low (sound.1 reply) (entries-in-step limits s q flat step) (entries-hold limits s q words flat step h) in
     record { vp = r.vp; served = ap (λ served. (q, block s q) ∷ served) r.served; holds = r.holds }
 
-pub attempt-same : (v : Vp) (s : PartitionState) (op : Op) (words : List ℕ) (flat : Flat) → v.number < v.limits.vps → IsInStep v.limits s flat → Holds v.limits words flat
-    → SameDid v.limits (does_all (answer_of v.limits v.number) (words_by v.limits v.number) (words_by_entries v.limits) s (Some op) v words (attempt (origin_of v) op)) (does_all (answer_in v.limits v.number) (flat_after v.limits v.number) with_entries s (Some op) v flat (attempt (origin_of v) op))
-attempt-same v s op words flat low step h =
-    same_did IsOver v.limits v.number (Some op) s v [] (attempt (origin_of v) op) words flat low (attempt-sound v.limits v.number v.state v.controllers op [] low refl) step h
+tree-sound : (v : Vp) (op : Option Op) → v.number < v.limits.vps → Sound v.limits IsOver [] (tree_of (origin_of v) op)
+tree-sound v None low = refl
+tree-sound v (Some op) low = attempt-sound v.limits v.number v.state v.controllers op [] low refl
+
+-- either of two, by the same test
+same-cond : (limits : Limits) (b : Bool) (x y : Did (List ℕ)) (z w : Did Flat) → SameDid limits x z → SameDid limits y w → SameDid limits (cond b x y) (cond b z w)
+same-cond limits true x y z w h g = h
+same-cond limits false x y z w h g = g
+
+module _ (program : Program) (v : Vp) (s : PartitionState) where
+  -- on all the shared words, and on the journal and its lists
+  abbrev slow : Option Op → List ℕ → Tree Outcome → Did (List ℕ)
+  slow op words t = does_all (answer_of v.limits v.number) (words_by v.limits v.number) (words_by_entries v.limits) s op v words t
+
+  abbrev fast : Option Op → Flat → Tree Outcome → Did Flat
+  fast op flat t = does_all (answer_in v.limits v.number) (flat_after v.limits v.number) with_entries s op v flat t
+
+  abbrev idle : {W : Type 0} → W → Did W
+  idle words = record { vp = v; words = words; served = [] }
+
+  -- the same word says that the processor isn't to start
+  wakes-same : (words : List ℕ) (flat : Flat) → v.number < v.limits.vps → IsInStep v.limits s flat → Holds v.limits words flat
+      → SameDid v.limits (wakes (answer_of v.limits v.number) (words_by v.limits v.number) (words_by_entries v.limits) s v words) (wakes (answer_in v.limits v.number) (flat_after v.limits v.number) with_entries s v flat)
+  wakes-same words flat low step h =
+      let t = start_tree (origin_of v) in
+      let x = answer_of v.limits v.number words (Taking Start) in
+      let did = same_did IsOver v.limits v.number None s v [] t words flat low (start-sound v.limits v.number v.state v.controllers [] low refl) step h in
+      let both = same-cond v.limits (x == 0) (idle words) (slow None words t) (idle flat) (fast None flat t) (record { vp = refl; served = refl; holds = h }) did in
+      subst (λ y. SameDid v.limits (cond (x == 0) (idle words) (slow None words t)) (cond (y == 0) (idle flat) (fast None flat t))) (same_answer v.limits v.number [] (Taking Start) words flat low tt h) both
+
+  pub acts-same : (words : List ℕ) (flat : Flat) → v.number < v.limits.vps → IsInStep v.limits s flat → Holds v.limits words flat
+      → SameDid v.limits (acts (answer_of v.limits v.number) (words_by v.limits v.number) (words_by_entries v.limits) program s v words) (acts (answer_in v.limits v.number) (flat_after v.limits v.number) with_entries program s v flat)
+  acts-same words flat low step h =
+      let op = operation_at program v.state in
+      let t = tree_of (origin_of v) op in
+      same-cond v.limits v.started (slow op words t) (wakes (answer_of v.limits v.number) (words_by v.limits v.number) (words_by_entries v.limits) s v words) (fast op flat t) (wakes (answer_in v.limits v.number) (flat_after v.limits v.number) with_entries s v flat)
+      (same_did IsOver v.limits v.number op s v [] t words flat low (tree-sound v op low) step h) (wakes-same words flat low step h)
 
 -- the partition stays in step with the journal
 pub did-in-step : (limits : Limits) (p : ℕ) (op : Option Op) (s : PartitionState) (v : Vp) (t : Tree Outcome) (flat : Flat) → IsInStep limits s flat
@@ -143,9 +178,25 @@ did-in-step limits p op s v (Wants q k) flat step =
     let reply = answer s q in
     did-in-step limits p op (after s q) (answered reply (asking op v)) (k reply) (with_entries flat (block s q)) (entries-in-step limits s q flat step)
 
-pub attempt-in-step : (v : Vp) (s : PartitionState) (op : Op) (flat : Flat) → IsInStep v.limits s flat
-    → let did = does_all (answer_in v.limits v.number) (flat_after v.limits v.number) with_entries s (Some op) v flat (attempt (origin_of v) op) in IsInStep v.limits (state_after s did.served) did.words
-attempt-in-step v s op flat step = did-in-step v.limits v.number (Some op) s v (attempt (origin_of v) op) flat step
+-- what holds of both holds by either test
+did-cond : {W : Type 0} (P : Did W → Type 0) (b : Bool) (x y : Did W) → P x → P y → P (cond b x y)
+did-cond P true x y h g = h
+did-cond P false x y h g = g
+
+-- whether a processor has started or not, and whether it is to start: what holds where nothing is done, and of all that a tree does
+module _ {W : Type 0} (answers : W → WordStep → ℕ) (changes : W → WordStep → W) (adds : W → List Entry → W) where
+  pub acts-either : (P : Did W → Type 0) (program : Program) (s : PartitionState) (v : Vp) (words : W) → P (record { vp = v; words = words; served = [] })
+      → ((op : Option Op) (t : Tree Outcome) → P (does_all answers changes adds s op v words t)) → P (acts answers changes adds program s v words)
+  acts-either P program s v words none did =
+      let op = operation_at program v.state in
+      let start = start_tree (origin_of v) in
+      did-cond P v.started (does_all answers changes adds s op v words (tree_of (origin_of v) op)) (wakes answers changes adds s v words) (did op (tree_of (origin_of v) op))
+      (did-cond P (answers words (Taking Start) == 0) (record { vp = v; words = words; served = [] }) (does_all answers changes adds s None v words start) none (did None start))
+
+pub acts-in-step : (program : Program) (v : Vp) (s : PartitionState) (flat : Flat) → IsInStep v.limits s flat
+    → let did = acts (answer_in v.limits v.number) (flat_after v.limits v.number) with_entries program s v flat in IsInStep v.limits (state_after s did.served) did.words
+acts-in-step program v s flat step =
+    acts-either (answer_in v.limits v.number) (flat_after v.limits v.number) with_entries (λ did. IsInStep v.limits (state_after s did.served) did.words) program s v flat step (λ op t. did-in-step v.limits v.number op s v t flat step)
 
 -- and the journal gains the entries of the requests
 pub did-journal : (limits : Limits) (p : ℕ) (op : Option Op) (s : PartitionState) (v : Vp) (t : Tree Outcome) (flat : Flat)
@@ -160,6 +211,7 @@ did-journal limits p op s v (Wants q k) flat =
     let did : Did Flat = does_all (answer_in limits p) (flat_after limits p) with_entries (after s q) op (answered reply (asking op v)) (with_entries flat (block s q)) (k reply) in
     did-journal limits p op (after s q) (answered reply (asking op v)) (k reply) (with_entries flat (block s q)) ∙ append_assoc flat.journal (block s q) (joined did.served)
 
-pub attempt-journal : (v : Vp) (s : PartitionState) (op : Op) (flat : Flat)
-    → let did = does_all (answer_in v.limits v.number) (flat_after v.limits v.number) with_entries s (Some op) v flat (attempt (origin_of v) op) in did.words.journal ≡ flat.journal ++ joined did.served
-attempt-journal v s op flat = did-journal v.limits v.number (Some op) s v (attempt (origin_of v) op) flat
+pub acts-journal : (program : Program) (v : Vp) (s : PartitionState) (flat : Flat)
+    → let did = acts (answer_in v.limits v.number) (flat_after v.limits v.number) with_entries program s v flat in did.words.journal ≡ flat.journal ++ joined did.served
+acts-journal program v s flat =
+    acts-either (answer_in v.limits v.number) (flat_after v.limits v.number) with_entries (λ did. did.words.journal ≡ flat.journal ++ joined did.served) program s v flat (sym (append-nil flat.journal)) (λ op t. did-journal v.limits v.number op s v t flat)

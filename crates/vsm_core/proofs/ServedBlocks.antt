@@ -9,16 +9,18 @@ use Rattle.vsm_base.specs.declared.status.HvStatus.{HvStatus}
 use Rattle.vsm_base.specs.declared.status.TheConstants.HvStatus as statuses
 use Rattle.vsm_core.specs.Blocks.{IsBlock, AreBlocks, IsWhole, ask, clear, round, join, rounds_after, on_after}
 use Rattle.vsm_core.specs.Calls.{first_failed}
-use Rattle.vsm_core.specs.Partition.{named, index_of, enable_partition_checks, enable_vp_checks}
+use Rattle.vsm_core.specs.Partition.{standing, named, index_of, target_of, enable_partition_checks, enable_vp_checks, start_checks}
 use Rattle.vsm_core.specs.Protection.{map_flags, modify_checks, page_refusals, config_checks, asks_for, asks_for_all}
 use Rattle.vsm_core.specs.Reps.{acting, refusing}
-use Rattle.vsm_core.specs.Served.{Service, refused, judged, enable_partition, enable_vp, with_round, modify, modify_some, write_config, serve_call, serve, after, AreServed, joined}
+use Rattle.vsm_core.specs.Served.{Service, refused, judged, enable_partition, enable_vp, start_vp, fetch_of, with_round, modify, modify_some, write_config, serve_call, serve, after, AreServed, joined}
 use Rattle.vsm_core.specs.Status.{protects, default_mask}
+use Rattle.vsm_core.specs.Targets.{level_of}
 use Rattle.vsm_core.specs.declared.journal.Entry.{Entry}
 use Rattle.vsm_core.specs.declared.journal.Entry.TheVariants as entries
+use Rattle.vsm_core.specs.declared.partition_state.Accepted.{Accepted}
 use Rattle.vsm_core.specs.declared.partition_state.PartitionState.{PartitionState}
 use Rattle.vsm_core.specs.declared.request.PartCall.{PartCall}
-use Rattle.vsm_core.specs.declared.request.PartCall.TheVariants.{EnablePartition, EnableVp, Modify, Flush, ReadStatus, ReadConfig, WriteConfig}
+use Rattle.vsm_core.specs.declared.request.PartCall.TheVariants.{EnablePartition, EnableVp, Start, Modify, Flush, ReadStatus, ReadConfig, WriteConfig, Fetch}
 use Rattle.vsm_core.specs.declared.request.Request.{Request}
 use Rattle.vsm_core.proofs.Checks.{none-fails}
 
@@ -117,12 +119,19 @@ write-lawful : (s : PartitionState) (by : VpIndex) (value : ℕ) (refusal : Opti
 write-lawful s by value None is = config-lawful (not (protects s.config) && protects value) s by value refl (config-keeps s.config value is)
 write-lawful s by value (Some status) is = refused-lawful s by 0 status
 
+fetch-lawful : (s : PartitionState) (by : VpIndex) (start : Option Accepted) → IsLawful s (fetch_of s by start)
+fetch-lawful s by None = refused-lawful s by 0 statuses.INVALID_VP_STATE
+fetch-lawful s by (Some start) = record { block = refl; rounds = refl; on = refl; vps = length-set s.vps by.0 _; pages = refl }
+
 call-lawful : (s : PartitionState) (by : VpIndex) (level : Vtl) (call : PartCall) → IsLawful s (serve_call s by level call)
 call-lawful s by level (EnablePartition words) =
     judged-lawful s by 0 (first_failed (enable_partition_checks s words)) (enable_partition s by) (record { block = refl; rounds = refl; on = refl; vps = refl; pages = refl })
 call-lawful s by level (EnableVp words) =
     let vp = named by.0 (index_of words) in
     judged-lawful s by 0 (first_failed (enable_vp_checks s by.0 level vp words (drop 2 words))) (enable_vp s by vp (drop 2 words)) (record { block = refl; rounds = refl; on = refl; vps = length-set s.vps vp _; pages = refl })
+call-lawful s by level (Start words) =
+    let vp = named by.0 (index_of words) in
+    judged-lawful s by 0 (first_failed (start_checks s level vp words (drop 2 words))) (start_vp s by vp (level_of (target_of words)) (drop 2 words)) (record { block = refl; rounds = refl; on = refl; vps = length-set s.vps vp _; pages = refl })
 call-lawful s by level (Modify header pages start total) =
     let refusals = page_refusals s.pages pages.items in
     judged-lawful s by start (first_failed (modify_checks s level header)) (modify s by (map_flags header) pages.items start)
@@ -131,7 +140,7 @@ call-lawful s by level (Flush total) = round-lawful s by [] statuses.SUCCESS tot
 call-lawful s by level ReadStatus = record { block = refl; rounds = refl; on = refl; vps = refl; pages = refl }
 call-lawful s by level ReadConfig = record { block = refl; rounds = refl; on = refl; vps = refl; pages = refl }
 call-lawful s by level (WriteConfig value) = write-lawful s by value (first_failed (config_checks s.config value)) refl
-call-lawful s by level _ = refused-lawful s by 0 statuses.INVALID_HYPERCALL_CODE
+call-lawful s by level Fetch = fetch-lawful s by (standing s by.0).start
 
 pub lawful : (s : PartitionState) (r : Request) → IsLawful s (serve s r)
 lawful s r = call-lawful s r.by r.level r.call

@@ -6,7 +6,7 @@ use Rattle.vsm_base.specs.declared.status.HvStatus.{HvStatus}
 use Rattle.vsm_core.specs.declared.register.CallRegister.{CallRegister}
 use Rattle.vsm_core.specs.declared.register.CallRegister.TheVariants.{PartitionStatus, PartitionConfig}
 use Rattle.vsm_core.specs.declared.request.PartCall.{PartCall}
-use Rattle.vsm_core.specs.declared.request.PartCall.TheVariants.{EnablePartition, EnableVp, Modify, Flush}
+use Rattle.vsm_core.specs.declared.request.PartCall.TheVariants.{EnablePartition, EnableVp, Start, Modify, Flush}
 use Rattle.vsm_core.specs.Calls.{Row, rows, row_of, code_in, count_in, start_in, Check, first_failed, form_checks, is_fast}
 use Rattle.vsm_core.specs.Hypercalls.{call_of, input_refusal, place_checks}
 use Rattle.vsm_core.specs.Protection.{IsSlice}
@@ -36,7 +36,7 @@ one-among (r ∷ list) code row h e = one-by (r.code == code) r row (find (λ (r
 
 all-ones : AreOnes rows
 unfolding rows
-all-ones = (λ e. absurd (omega arith), (λ e. absurd (omega arith), (λ e. (refl, refl), (λ e. absurd (omega arith), (λ e. absurd (omega arith), (λ e. absurd (omega arith), (λ e. absurd (omega arith), tt)))))))
+all-ones = (λ e. absurd (omega arith), (λ e. absurd (omega arith), (λ e. absurd (omega arith), (λ e. (refl, refl), (λ e. absurd (omega arith), (λ e. absurd (omega arith), (λ e. absurd (omega arith), (λ e. absurd (omega arith), (λ e. absurd (omega arith), tt)))))))))
 
 one-row : (code : ℕ) (row : Row) → row_of code ≡ Some row → IsOne row
 unfolding row_of
@@ -67,10 +67,11 @@ words-within : (start count : ℕ) → start < count → start + words_between 8
 words-within start count h = grind arith
 
 -- a call by its code
-other-slice : (a b : Bool) (header : List ℕ) (count : ℕ) → count < 4096 → IsSlice (cond a (EnablePartition header) (cond b (EnableVp header) (Flush count)))
-other-slice true b header count h = tt
-other-slice false true header count h = tt
-other-slice false false header count h = h
+other-slice : (a b c : Bool) (header : List ℕ) (count : ℕ) → count < 4096 → IsSlice (cond a (EnablePartition header) (cond b (EnableVp header) (cond c (Start header) (Flush count))))
+other-slice true b c header count h = tt
+other-slice false true c header count h = tt
+other-slice false false true header count h = tt
+other-slice false false false header count h = h
 
 either-slice : (pages : Bool) (other : PartCall) (header elements : List ℕ) (start count : ℕ)
     → (pages ≡ true → (length elements ≤ 8) × (start + length elements ≤ count)) → count < 4096 → IsSlice other → IsSlice (cond pages (Modify header (record { items = elements }) start count) other)
@@ -79,8 +80,8 @@ either-slice false other header elements start count h few g = g
 
 call-slice : (code : ℕ) (header elements : List ℕ) (start count : ℕ) → (code ≡ 0x000C → (length elements ≤ 8) × (start + length elements ≤ count)) → count < 4096 → IsSlice (call_of code header elements start count)
 call-slice code header elements start count h few =
-    either-slice (code == 0x000C) (cond (code == 0x000D) (EnablePartition header) (cond (code == 0x000F) (EnableVp header) (Flush count))) header elements start count
-    (λ is. h (grind (arith, nat_tests))) few (other-slice (code == 0x000D) (code == 0x000F) header count few)
+    either-slice (code == 0x000C) (cond (code == 0x000D) (EnablePartition header) (cond (code == 0x000F) (EnableVp header) (cond (code == 0x0099) (Start header) (Flush count)))) header elements start count
+    (λ is. h (grind (arith, nat_tests))) few (other-slice (code == 0x000D) (code == 0x000F) (code == 0x0099) header count few)
 
 count-few : (value : ℕ) → count_in value < 4096
 count-few value = grind arith

@@ -1,6 +1,6 @@
 -- An attempt asks only what may be asked.
-use Rattle.std.proofs.Common.{◌≡◌, ◌≢◌, ◌<◌, ◌≤◌, ◌+◌, ◌*◌, nat_le, length, IfSome, ◌∙◌, ℕ, zero, suc, Bool, true, false, not, cond, nat_lt, Option, Some, None, List, [], ◌∷◌, ◌++◌, refl, subst, arith, ◌%◌, ◌/◌, ◌^◌, ◌==◌, ◌&&◌}
-use Rattle.std.specs.List.{list_all}
+use Rattle.std.proofs.Common.{◌≡◌, ◌≢◌, ◌<◌, ◌≤◌, ◌+◌, ◌*◌, nat_le, length, IfSome, ◌∙◌, ℕ, zero, suc, Bool, true, false, not, cond, nat_lt, Option, Some, None, List, [], ◌∷◌, ◌++◌, refl, subst, arith, ◌%◌, ◌/◌, ◌^◌, ◌==◌, ◌&&◌, ◌||◌}
+use Rattle.std.specs.List.{list_all, filter, range_with_len}
 use Rattle.std.proofs.lemmas.Bool.Decides.{nat_tests}
 use Rattle.vsm_base.specs.Masks.{allows}
 use Rattle.vsm_base.specs.declared.places.Access.{Access}
@@ -9,6 +9,7 @@ use Rattle.vsm_base.specs.declared.places.Limits.{Limits}
 use Rattle.vsm_base.specs.declared.places.Vtl.{Vtl}
 use Rattle.vsm_base.specs.declared.places.Vtl.TheVariants.{Zero, One}
 use Rattle.vsm_base.specs.declared.status.HvStatus.{HvStatus}
+use Rattle.vsm_base.specs.declared.status.TheConstants.HvStatus as statuses
 use Rattle.vsm_core.specs.declared.event.Event.{Event}
 use Rattle.vsm_core.specs.declared.event.Phase.TheVariants.{Idle}
 use Rattle.vsm_core.specs.declared.mark.Grant.{Grant}
@@ -24,6 +25,8 @@ use Rattle.vsm_core.specs.declared.request.Reply.{Reply}
 use Rattle.vsm_core.specs.Tree.{Tree, Ends, Asks, Wants, WordStep, Masking, Writing, Leaving, Posting, then_, asks_all, takes, reads}
 use Rattle.vsm_core.specs.Calls.{Row, Check, row_of, code_in, count_in, start_in, is_fast as is_fast_call, first_failed, form_checks}
 use Rattle.vsm_core.specs.Hypercalls.{input_value, input_address, output_address, input_size, output_size, has_output, fast_words, input_checks, input_refusal, place_checks, result_outcome}
+use Rattle.vsm_core.specs.Interrupts.{vector_in, processors_in, interrupted_level, interrupt_checks, is_in, those_in, interrupt_step, interrupt_steps}
+use Rattle.vsm_core.specs.Starts.{start_tree}
 use Rattle.vsm_core.specs.RegisterCalls.{Setting, settings, value_words, look_in, write_in, set_slice, count_of, start_of, past_of, header_refusal, slice_numbers, slice_output, got_slice}
 use Rattle.vsm_core.specs.Reps.{first_word, words_between}
 use Rattle.vsm_core.specs.Targets.{target_level}
@@ -39,8 +42,8 @@ use Rattle.vsm_core.specs.Switch.{may_call, may_return, may_enter, is_zero, is_f
 use Rattle.vsm_core.specs.Controllers.{Controllers, message_page, message_steps, post_steps, pending_steps, writes, rings, sint0_vector, has_none, vector_words, with_taken}
 use Rattle.vsm_core.specs.Messages.{message_words, flagged, is_free}
 use Rattle.vsm_core.specs.Outcomes.{Origin, Outcome, Refusal, origin_in, outcome_at, faulted, fills, loaded, passed, spun, note_of, held_outcome, denied_outcome, hit_outcome, register_note, set_outcome, get_outcome, eom_outcome}
-use Rattle.vsm_core.specs.Attempt.{attempt, by_access, begun, leaves, left_with, in_own_access, told_on, by_slot, posting, tells, refused, goal_of, returns, is_wanted, wanted_outcome, unwanted_outcome, polled_on, sending, polled, sends, eom_on, requests, left_for, hit_tells, hits_on, intercepted, is_write_hit, is_read_hit, set_tree, get_tree, behind_page_mask, puts_out, looked_by, gets_or_asks, gets_by, sets_or_asks, sets_by, by_input, reads_slice, reads_input, behind_output, by_memory, admitted, by_refusal, hypercall_tree}
-use Rattle.vsm_core.proofs.Bounds.{words-twelve, flagged-length, flush_row, flush_list_row, modify_row, partition_row, level_row, get_row, set_row, each-row, past-inside, output-length}
+use Rattle.vsm_core.specs.Attempt.{attempt, by_access, begun, leaves, left_with, in_own_access, told_on, by_slot, posting, tells, refused, goal_of, returns, is_wanted, wanted_outcome, unwanted_outcome, polled_on, sending, polled, sends, eom_on, requests, left_for, hit_tells, hits_on, intercepted, is_write_hit, is_read_hit, set_tree, get_tree, behind_page_mask, puts_out, looked_by, gets_or_asks, gets_by, sets_or_asks, sets_by, interrupts_by, interrupts, by_input, reads_slice, reads_input, behind_output, by_memory, by_registers, admitted, by_refusal, hypercall_tree}
+use Rattle.vsm_core.proofs.Bounds.{words-twelve, flagged-length, flush_row, flush_list_row, interrupt_row, modify_row, partition_row, level_row, get_row, set_row, start_row, each-row, past-inside, output-length}
 use Rattle.vsm_core.proofs.Checks.{none-fails}
 use Rattle.vsm_core.specs.Sound.{Sound, IsOver}
 
@@ -364,6 +367,39 @@ output-part pages row value address output e is =
     let none = none-fails (place_checks pages row value address output) e in
     part-by pages output (output_size row value) (and-other _ _ is none.1.0) (and-other _ _ is none.1.1.1.0) (and-other _ _ is none.1.1.1.1.1.0)
 
+-- each of these processors is one of so many
+abbrev AreBelow : ℕ → List ℕ → Type 0
+AreBelow count [] = Unit {0}
+AreBelow count (p ∷ ps) = (p < count) × AreBelow count ps
+
+below-cond : (b : Bool) (count p : ℕ) (ps : List ℕ) → p < count → AreBelow count ps → AreBelow count (cond b (p ∷ ps) ps)
+below-cond true count p ps low h = (low, h)
+below-cond false count p ps low h = h
+
+filter-below : (f : ℕ → Bool) (count : ℕ) (ps : List ℕ) → AreBelow count ps → AreBelow count (filter f ps)
+filter-below f count [] h = tt
+filter-below f count (p ∷ ps) h = below-cond (f p) count p (filter f ps) h.0 (filter-below f count ps h.1)
+
+range-below : (count p n : ℕ) → p + n ≤ count → AreBelow count (range_with_len p n)
+range-below count p zero le = tt
+range-below count p (suc n) le = (omega arith, range-below count (p + 1) n (omega arith))
+
+those-below : (bits count : ℕ) → AreBelow count (those_in bits 0 count)
+those-below bits count = filter-below (is_in bits) count (range_with_len 0 count) (range-below count 0 count (omega arith))
+
+-- a post may be made between two accesses
+interrupt-sound : {A : Type 0} (limits : Limits) (Q : List Event → A → Type 0) (es : List Event) (level : Vtl) (vector : ℕ) (ps : List ℕ) (rest : Tree A) → vector < 256 → AreBelow limits.vps ps → phase_of es ≡ Idle
+    → ((fs : List Event) → phase_of fs ≡ Idle → Sound limits Q fs rest) → Sound limits Q es (asks_all (interrupt_steps level vector ps) rest)
+interrupt-sound limits Q es level vector [] rest few below idle h = h es idle
+interrupt-sound limits Q es level vector (p ∷ ps) rest few below idle h =
+    ((below.0, omega arith), λ x. interrupt-sound limits Q (made (interrupt_step level vector p) x ∷ es) level vector ps rest few below.1 idle h)
+
+-- the vector of a call that isn't refused
+lawful-vector : (vps : ℕ) (caller : Vtl) (header : List ℕ) → first_failed (interrupt_checks vps caller header) ≡ None → vector_in header < 256
+lawful-vector vps caller header e = by (vector_in header) (none-fails (interrupt_checks vps caller header) e).1.1.0 where
+  by : (vector : ℕ) → (nat_lt vector 0x10 || nat_lt 0xFF vector) ≡ false → vector < 256
+  by vector fails = grind (arith, nat_tests)
+
 reads-sound : {A : Type 0} (limits : Limits) (Q : List Event → A → Type 0) (es : List Event) (page index count : ℕ) (found : List ℕ) (rest : List ℕ → Tree A) → page < limits.pages → index + count ≤ 512 → IsIn (phase_of es)
     → ((fs : List Event) (words : List ℕ) → IsIn (phase_of fs) → Sound limits Q fs (rest words)) → Sound limits Q es (reads page index count found rest)
 reads-sound limits Q es page index zero found rest low few inside h = h es found inside
@@ -389,6 +425,19 @@ module _ (limits : Limits) (number : ℕ) (state : State) (controllers : Control
   sets_by-sound es header words None inside =
       let target = target_level state.active header in
       sets_or-sound es target (settings words) (write_in state.active target (count_of caller) (settings words)) inside
+
+  interrupts_by-sound : (es : List Event) (header : List ℕ) (refusal : Option HvStatus) → first_failed (interrupt_checks limits.vps state.active header) ≡ refusal → phase_of es ≡ Idle → Sound limits IsOver es (interrupts_by caller header refusal)
+  interrupts_by-sound es header (Some status) e idle = idle
+  interrupts_by-sound es header None e idle =
+      interrupt-sound limits IsOver es (interrupted_level state.active header) (vector_in header) (those_in (processors_in header) 0 limits.vps) (Ends (result_outcome caller state statuses.SUCCESS 0))
+      (lawful-vector limits.vps state.active header e) (those-below (processors_in header) limits.vps) idle (λ fs over. over)
+
+  interrupts-sound : (es : List Event) (header : List ℕ) → phase_of es ≡ Idle → Sound limits IsOver es (interrupts caller header)
+  interrupts-sound es header idle = interrupts_by-sound es header (first_failed (interrupt_checks limits.vps state.active header)) refl idle
+
+  by_registers-sound : (es : List Event) (code : ℕ) (header : List ℕ) → phase_of es ≡ Idle → Sound limits IsOver es (by_registers caller code header)
+  by_registers-sound es code header idle =
+      Sound-cond limits IsOver es (code == 0x000B) (interrupts caller header) (requests caller code header []) (λ _. interrupts-sound es header idle) (requests-sound es code header [] idle)
 
   behind_page_mask-sound : (level : Vtl) (es : List Event) (kind : Access) (address generation : ℕ) (rest : Tree Outcome) → address / 4096 < limits.pages → IsIn (phase_of es) → ((fs : List Event) → IsIn (phase_of fs) → Sound limits IsOver fs rest) → Sound limits IsOver es (behind_page_mask level caller kind address generation rest)
   behind_page_mask-sound Zero es kind address generation rest there inside h = (
@@ -458,8 +507,8 @@ module _ (limits : Limits) (number : ℕ) (state : State) (controllers : Control
   admitted-by : (es : List Event) (row : Row) (fast : Bool) → first_failed (form_checks row (input_value state) ++ cond fast [] (place_checks limits.pages row (input_value state) input output)) ≡ None → phase_of es ≡ Idle
       → (first_failed (form_checks row (input_value state)) ≡ None → IsPart limits.pages input (input_size row (input_value state)) → IsReadable row input)
       → (first_failed (form_checks row (input_value state)) ≡ None → (has_output row ≡ true → IsPart limits.pages output (output_size row (input_value state))) → (fs : List Event) (header words : List ℕ) → IsIn (phase_of fs) → Sound limits IsOver fs (by_input caller row.code header words))
-      → Sound limits IsOver es (cond fast (requests caller row.code (fast_words state) []) (by_memory caller row input))
-  admitted-by es row true e idle readable does = requests-sound es row.code (fast_words state) [] idle
+      → Sound limits IsOver es (cond fast (by_registers caller row.code (fast_words state)) (by_memory caller row input))
+  admitted-by es row true e idle readable does = by_registers-sound es row.code (fast_words state) idle
   admitted-by es row false e idle readable does =
       let parts = first_failed-parts (form_checks row (input_value state)) (place_checks limits.pages row (input_value state) input output) e in
       let part = input-part limits.pages row (input_value state) input output parts.1 in
@@ -477,6 +526,8 @@ module _ (limits : Limits) (number : ℕ) (state : State) (controllers : Control
       each-row (IsAdmitted es) code
       (λ e. admitted-by es flush_row fast e idle (λ form part. let aligned = part.aligned in let fits = part.fits in omega (arith, aligned, fits)) (λ form put fs header words inside. left_for-sound fs 0x0002 header words inside))
       (λ e. admitted-by es flush_list_row fast e idle (λ form part. let aligned = part.aligned in let fits = part.fits in omega (arith, aligned, fits)) (λ form put fs header words inside. left_for-sound fs 0x0003 header words inside))
+      (λ e. admitted-by es interrupt_row fast e idle (λ form part. let aligned = part.aligned in let fits = part.fits in omega (arith, aligned, fits))
+      (λ form put fs header words inside. (inside-ne limits number state controllers low fs inside, λ x. interrupts-sound (made Leaving x ∷ fs) header refl)))
       (λ e. admitted-by es modify_row fast e idle
       (λ form part. let before = started modify_row (input_value state) form refl in let aligned = part.aligned in let fits = part.fits in omega (arith, aligned, fits, before, past))
       (λ form put fs header words inside. left_for-sound fs 0x000C header words inside))
@@ -488,6 +539,7 @@ module _ (limits : Limits) (number : ℕ) (state : State) (controllers : Control
       (λ e. admitted-by es set_row fast e idle
       (λ form part. let before = started set_row (input_value state) form refl in let aligned = part.aligned in let fits = part.fits in omega (arith, aligned, fits, before, past))
       (λ form put fs header words inside. sets_by-sound fs header words (header_refusal caller header) inside))
+      (λ e. admitted-by es start_row fast e idle (λ form part. let aligned = part.aligned in let fits = part.fits in omega (arith, aligned, fits)) (λ form put fs header words inside. left_for-sound fs 0x0099 header words inside))
 
   by_refusal-sound : (es : List Event) (row : Option Row) (refusal : Option HvStatus) → input_refusal limits.pages row (input_value state) input output ≡ refusal → IfSome row (IsAdmitted es) → phase_of es ≡ Idle → Sound limits IsOver es (by_refusal caller row refusal)
   by_refusal-sound es row (Some status) e h idle = idle
@@ -522,3 +574,7 @@ attempt-sound limits number state controllers Poll es low idle =
 attempt-sound limits number state controllers ops.Eom es low idle =
     Sound-cond limits IsOver es (is_zero state.active) (Ends _) (eom_on (origin_in limits number state controllers) (message_page limits.pages state) controllers.waiting) (λ _. idle) (eom_on-sound limits number state controllers low es (message_page limits.pages state) controllers.waiting (message-there limits.pages state) idle)
 attempt-sound limits number state controllers _ es low idle = idle
+
+-- so does a start
+pub start-sound : (limits : Limits) (number : ℕ) (state : State) (controllers : Controllers) (es : List Event) → number < limits.vps → phase_of es ≡ Idle → Sound limits IsOver es (start_tree (origin_in limits number state controllers))
+start-sound limits number state controllers es low idle = (tt, λ x. (idle, λ reply. idle))

@@ -512,7 +512,34 @@ close\n\
 ",
 };
 
-pub const ALL: [Case; 17] = [
+pub const SELF_MAPPING_TABLE: Case = Case {
+    name: "a table that maps itself at all four levels",
+    script: b"\
+vsm 1\n\
+vps 1\n\
+pages 8\n\
+budget 10\n\
+started 1\n\
+word 2 0 0x2003\n\
+program 0 0\n\
+set Cr3 0x2000\n\
+set Cr0 0x80000001\n\
+load Rax 0\n\
+schedule 0*5\n\
+end\n\
+",
+    status: Status::Ok,
+    text: b"\
+vsm-report 1 trace\n\
+0.0 0 set Cr3 ok\n\
+0.0 1 set Cr0 ok\n\
+0.0 2 load ok page 2 mask 15 gen 0 value 0x0000000000002003\n\
+end 0 done\n\
+close\n\
+",
+};
+
+pub const ALL: [Case; 18] = [
     EMPTY_PROGRAM,
     DENIED_STORE,
     LAST_WORD_AND_UNMAPPED,
@@ -526,6 +553,7 @@ pub const ALL: [Case; 17] = [
     TABLE_PAGE_DENIED,
     SPIN_AGAIN,
     WALKED,
+    SELF_MAPPING_TABLE,
     EIGHT_ENDINGS,
     CALL_NOT_ENABLED,
     RETURN_IN_LEVEL_0,

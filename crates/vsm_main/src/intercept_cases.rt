@@ -335,4 +335,68 @@ close\n\
 ",
 };
 
-pub const INTERCEPTS: [Case; 2] = [INTERCEPTED_CR0, EVERY_INTERCEPT];
+pub const UNTOUCHABLE_MESSAGE_PAGE: Case = Case {
+    name: "a message on a page that level 0 may not touch",
+    script: b"\
+vsm 1\n\
+vps 1\n\
+pages 8\n\
+budget 100\n\
+started 1\n\
+mask 5 0\n\
+mask 6 1\n\
+word 1 0 0xffffffffffffffff\n\
+word 1 1 0x1fffffffe\n\
+program 0 0\n\
+set Rcx 0x1000d\n\
+set Rdx 0xffffffffffffffff\n\
+set R8 1\n\
+hypercall\n\
+set Rcx 0xf\n\
+set Rdx 0x1000\n\
+hypercall\n\
+set Rcx 0\n\
+vtlcall\n\
+store 0x6000 1\n\
+program 0 1\n\
+set Simp 0x5001\n\
+set Scontrol 1\n\
+set Rcx 0\n\
+vtlreturn\n\
+load Rax 0x5000\n\
+schedule 0*40\n\
+end\n\
+",
+    status: Status::Ok,
+    text: b"\
+vsm-report 1 trace\n\
+0.0 0 set Rcx ok\n\
+0.0 1 set Rdx ok\n\
+0.0 2 set R8 ok\n\
+j enable 0\n\
+0.0 3 hypercall done 0x0000000000000000\n\
+0.0 4 set Rcx ok\n\
+0.0 5 set Rdx ok\n\
+j level 0 0\n\
+0.0 6 hypercall done 0x0000000000000000\n\
+0.0 7 set Rcx ok\n\
+0.0 8 vtlcall ok\n\
+0.1 0 set Simp ok\n\
+0.1 1 set Scontrol ok\n\
+0.1 2 set Rcx ok\n\
+0.1 3 vtlreturn ok\n\
+0.0 9 store denied page 6 mask 1 gen 0 access write slot\n\
+0.1 4 load ok page 5 mask - gen 0 value 0x0000005080000001\n\
+end 0 done\n\
+word 5:0 0x0000005080000001\n\
+word 5:2 0x0000010000000000\n\
+word 5:5 0x0000000000000009\n\
+word 5:6 0x0000000000000002\n\
+word 5:7 0x0000010000000000\n\
+word 5:8 0x0000000000006000\n\
+word 5:9 0x0000000000006000\n\
+close\n\
+",
+};
+
+pub const INTERCEPTS: [Case; 3] = [INTERCEPTED_CR0, EVERY_INTERCEPT, UNTOUCHABLE_MESSAGE_PAGE];

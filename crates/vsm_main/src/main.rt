@@ -18,6 +18,10 @@ mod hypercall_cases;
 #[cfg(test)]
 mod intercept_cases;
 #[cfg(test)]
+mod interrupt_cases;
+#[cfg(test)]
+mod malformed_calls;
+#[cfg(test)]
 mod name_cases;
 #[cfg(test)]
 mod protection_cases;
@@ -25,6 +29,8 @@ mod protection_cases;
 mod protection_refusals;
 #[cfg(test)]
 mod register_cases;
+#[cfg(test)]
+mod start_cases;
 #[cfg(test)]
 mod tests;
 

@@ -43,6 +43,15 @@ fn each_script_gives_the_report_that_was_worked_out_apart_from_the_program(
         change_cases::FIFTH.as_slice(),
         protection_refusals::REFUSED_CALLS.as_slice(),
         protection_refusals::REFUSED_CONFIGURATIONS.as_slice(),
+        start_cases::STARTS.as_slice(),
+        start_cases::BOOTED.as_slice(),
+        start_cases::STANDINGS.as_slice(),
+        start_cases::LEVELS_OF_OTHERS.as_slice(),
+        start_cases::REFUSED_STARTS.as_slice(),
+        interrupt_cases::SETS_AT_LEVEL_0.as_slice(),
+        interrupt_cases::SETS_AT_LEVEL_1_TOO.as_slice(),
+        interrupt_cases::VECTORS.as_slice(),
+        interrupt_cases::INTERRUPTS.as_slice(),
     ];
     for group in groups {
         for case in group {
@@ -56,6 +65,21 @@ fn each_script_gives_the_report_that_was_worked_out_apart_from_the_program(
             );
             assert_eq!(rt; sink.taken(), case.text, "{}", case.name);
         }
+    }
+    Ok(())
+}
+
+#[test]
+fn each_malformed_call_gets_the_status_that_says_why(rt: HostRuntime) -> Result<(), Fail> {
+    let alloc = rt.alloc();
+    for call in malformed_calls::MALFORMED_CALLS {
+        let script = malformed_calls::script(alloc, &call)?;
+        let report = malformed_calls::report(alloc, &call)?;
+        let mut source = MemSource::new(script, Vec::new(alloc), 4096);
+        let mut sink = MemSink::new(vec![in alloc; 0; ROOM]?, Vec::new(alloc), 4096);
+        let status = traced(alloc, &mut source, &mut sink)?;
+        assert_eq!(rt; status, Status::Ok, "{}", call.name);
+        assert_eq!(rt; sink.taken(), report.as_slice(), "{}", call.name);
     }
     Ok(())
 }

@@ -9,15 +9,17 @@ use Rattle.vsm_core.specs.declared.event.Event.TheVariants as events
 use Rattle.vsm_core.specs.declared.journal.Entry.{Entry}
 use Rattle.vsm_core.specs.declared.mark.Ending.{Ending}
 use Rattle.vsm_core.specs.declared.mark.What.{What}
-use Rattle.vsm_core.specs.declared.mark.What.TheVariants.{Again}
+use Rattle.vsm_core.specs.declared.mark.What.TheVariants.{Again, Started}
 use Rattle.vsm_core.specs.declared.operation.Op.{Op}
+use Rattle.vsm_core.specs.declared.operation.Program.{Program}
 use Rattle.vsm_core.specs.Outcomes.{Outcome}
 use Rattle.vsm_core.specs.declared.partition_state.PartitionState.{PartitionState}
 use Rattle.vsm_core.specs.declared.request.Reply.{Reply}
-use Rattle.vsm_core.specs.Processor.{Vp, IsSameProcessor, saw, came_to, marked_or_ended, asking, answered, does_all}
+use Rattle.vsm_core.specs.Processor.{Vp, IsSameProcessor, saw, came_to, marked_or_ended, asking, answered, does_all, acts}
 use Rattle.vsm_core.specs.Served.{answer, after, block}
 use Rattle.vsm_core.specs.Steps.{made}
 use Rattle.vsm_core.specs.Tree.{Tree, Ends, Asks, Wants, WordStep}
+use Rattle.vsm_core.proofs.SameAnswers.{acts-either}
 
 pub same_by : (v u w : Vp) → IsSameProcessor v u → IsSameProcessor u w → IsSameProcessor v w
 same_by v u w h g = record {
@@ -25,23 +27,24 @@ same_by v u w h g = record {
   limits = g.limits ∙ h.limits;
   zero_length = g.zero_length ∙ h.zero_length;
   one_length = g.one_length ∙ h.one_length;
-  started = g.started ∙ h.started;
+  started = λ is. g.started (h.started is);
 }
 
 saw-same : (op : Option Op) (v : Vp) (e : Event) → IsSameProcessor v (saw op v e)
-saw-same op v (events.Check generation) = record { number = refl; limits = refl; zero_length = refl; one_length = refl; started = refl }
-saw-same op v _ = record { number = refl; limits = refl; zero_length = refl; one_length = refl; started = refl }
+saw-same op v (events.Check generation) = record { number = refl; limits = refl; zero_length = refl; one_length = refl; started = λ is. is }
+saw-same op v _ = record { number = refl; limits = refl; zero_length = refl; one_length = refl; started = λ is. is }
 
 marked_or_ended-same : (v : Vp) (o : Outcome) (ending : Option Ending) → IsSameProcessor v (marked_or_ended v o ending)
-marked_or_ended-same v o None = record { number = refl; limits = refl; zero_length = refl; one_length = refl; started = refl }
-marked_or_ended-same v o (Some ending) = record { number = refl; limits = refl; zero_length = refl; one_length = refl; started = refl }
+marked_or_ended-same v o None = record { number = refl; limits = refl; zero_length = refl; one_length = refl; started = λ is. is }
+marked_or_ended-same v o (Some ending) = record { number = refl; limits = refl; zero_length = refl; one_length = refl; started = λ is. is }
 
 came_to-same : (what : What) (v : Vp) (o : Outcome) → IsSameProcessor v (came_to what v o)
 came_to-same (Again grant) v o = marked_or_ended-same v o _
-came_to-same _ v o = record { number = refl; limits = refl; zero_length = refl; one_length = refl; started = refl }
+came_to-same Started v o = record { number = refl; limits = refl; zero_length = refl; one_length = refl; started = λ is. refl }
+came_to-same _ v o = record { number = refl; limits = refl; zero_length = refl; one_length = refl; started = λ is. is }
 
 answered-same : (reply : Reply) (op : Option Op) (v : Vp) → IsSameProcessor v (answered reply (asking op v))
-answered-same reply op v = record { number = refl; limits = refl; zero_length = refl; one_length = refl; started = refl }
+answered-same reply op v = record { number = refl; limits = refl; zero_length = refl; one_length = refl; started = λ is. is }
 
 -- whatever an attempt asks and is answered
 module _ {W : Type 0} (answers : W → WordStep → ℕ) (changes : W → WordStep → W) (adds : W → List Entry → W) (op : Option Op) where
@@ -53,6 +56,11 @@ module _ {W : Type 0} (answers : W → WordStep → ℕ) (changes : W → WordSt
   does_all-same s v words (Wants q k) =
       let reply = answer s q in
       let heard = answered reply (asking op v) in same_by v heard _ (answered-same reply op v) (does_all-same (after s q) heard (adds words (block s q)) (k reply))
+
+-- and of a start too
+pub acts-same-processor : {W : Type 0} (answers : W → WordStep → ℕ) (changes : W → WordStep → W) (adds : W → List Entry → W) (program : Program) (s : PartitionState) (v : Vp) (words : W) → IsSameProcessor v (acts answers changes adds program s v words).vp
+acts-same-processor answers changes adds program s v words =
+    acts-either answers changes adds (λ did. IsSameProcessor v did.vp) program s v words (record { number = refl; limits = refl; zero_length = refl; one_length = refl; started = λ is. is }) (λ op t. does_all-same answers changes adds op s v words t)
 
 -- what holds of each element by its place holds when one is set for which it holds
 pub places-set : {X : Type 0} (P : ℕ → X → Type 0) (xs : List X) (i : ℕ) (y : X) → P i y → ((j : ℕ) (x : X) → slice_get xs j ≡ Some x → P j x) → (j : ℕ) (x : X) → slice_get (slice_set xs i y) j ≡ Some x → P j x

@@ -1,6 +1,5 @@
 -- What a run serves: each request adds what it adds to the state that those before it leave, and the masks at the end are those of the journal.
 use Rattle.std.proofs.Common.{◌≡◌, ℕ, Bool, true, false, cond, Option, Some, None, List, [], ◌∷◌, ◌++◌, slice_get, refl, sym, ap, ◌∙◌, subst}
-use Rattle.std.proofs.lemmas.List.{append-nil}
 use Rattle.std.proofs.lemmas.List.FromFn.{length-map-range_with_len}
 use Rattle.vsm_base.specs.declared.places.Limits.{Limits}
 use Rattle.vsm_core.specs.declared.journal.Entry.{Entry}
@@ -12,12 +11,12 @@ use Rattle.vsm_core.specs.Blocks.{IsWhole}
 use Rattle.vsm_core.specs.Journal.{masks}
 use Rattle.vsm_core.specs.Outcomes.{Outcome}
 use Rattle.vsm_core.specs.Partition.{opening_standing}
-use Rattle.vsm_core.specs.Processor.{Vp, saw, asking, answered, origin_of, tree_of, operation_at, does_all, attempted}
+use Rattle.vsm_core.specs.Processor.{Vp, saw, asking, answered, does_all, attempted}
 use Rattle.vsm_core.specs.Served.{answer, after, block, state_after, AreServed, joined}
 use Rattle.vsm_core.specs.Steps.{made}
 use Rattle.vsm_core.specs.Tree.{Tree, Ends, Asks, Wants, WordStep, Entering, Checking, Masking, Reading, Writing, Leaving, Posting, Taking}
 use Rattle.vsm_core.specs.Whole.{Flat, answer_in, flat_after, with_entries}
-use Rattle.vsm_core.proofs.SameAnswers.{attempt-journal}
+use Rattle.vsm_core.proofs.SameAnswers.{acts-either, acts-journal}
 use Rattle.vsm_core.proofs.ServedBlocks.{served-whole}
 use Rattle.guest_script.specs.declared.script.Script.{Script}
 use Rattle.guest_script.specs.Programs.{program_at}
@@ -40,7 +39,9 @@ module _ {W : Type 0} (answers : W → WordStep → ℕ) (changes : W → WordSt
 attempted-served : (program : Program) (v : Vp) (s : PartitionState) (flat : Flat) → AreServed s (attempted program v s flat).served
 unfolding attempted
 attempted-served program v s flat =
-    let op = operation_at program v.state in does_all-served (answer_in v.limits v.number) (flat_after v.limits v.number) with_entries op s v flat (tree_of (origin_of v) op)
+    let answers = answer_in v.limits v.number in
+    let changes = flat_after v.limits v.number in
+    acts-either answers changes with_entries (λ did. AreServed s did.served) program s v flat tt (λ op t. does_all-served answers changes with_entries op s v flat t)
 
 module _ (first : PartitionState) where
   abbrev HasServed : World → Type 0
@@ -95,15 +96,12 @@ did-opening limits p op s v flat (Wants q k) =
 
 attempted-opening : (program : Program) (v : Vp) (s : PartitionState) (flat : Flat) → (attempted program v s flat).words.opening ≡ flat.opening
 unfolding attempted
-attempted-opening program v s flat = let op = operation_at program v.state in did-opening v.limits v.number op s v flat (tree_of (origin_of v) op)
-
-tree-journal : (v : Vp) (s : PartitionState) (op : Option Op) (flat : Flat) → let did = does_all (answer_in v.limits v.number) (flat_after v.limits v.number) with_entries s op v flat (tree_of (origin_of v) op) in did.words.journal ≡ flat.journal ++ joined did.served
-tree-journal v s None flat = sym (append-nil flat.journal)
-tree-journal v s (Some op) flat = attempt-journal v s op flat
+attempted-opening program v s flat =
+    acts-either (answer_in v.limits v.number) (flat_after v.limits v.number) with_entries (λ did. did.words.opening ≡ flat.opening) program s v flat refl (λ op t. did-opening v.limits v.number op s v flat t)
 
 attempted-journal : (program : Program) (v : Vp) (s : PartitionState) (flat : Flat) → (attempted program v s flat).words.journal ≡ flat.journal ++ joined (attempted program v s flat).served
 unfolding attempted
-attempted-journal program v s flat = tree-journal v s (operation_at program v.state) flat
+attempted-journal program v s flat = acts-journal program v s flat
 
 module _ (first : PartitionState) (opening : List ℕ) where
   if-journal : (b : Bool) (w v : World) → HasJournal opening w → HasJournal opening v → HasJournal opening (cond b w v)

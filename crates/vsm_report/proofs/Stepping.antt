@@ -7,18 +7,18 @@ use Rattle.std.proofs.lemmas.Option.{slice_get_within, get_or_from_slice_get}
 use Rattle.std.proofs.Math.ListN.{get_or-append}
 use Rattle.std.proofs.Math.Seq.{take-append_seam, drop-append_seam, drop-append-add}
 use Rattle.vsm_base.specs.declared.places.Limits.{Limits}
-use Rattle.vsm_core.specs.declared.operation.Op.{Op}
 use Rattle.vsm_core.specs.declared.operation.Program.{Program}
 use Rattle.vsm_core.specs.declared.journal.Entry.{Entry}
 use Rattle.vsm_core.specs.declared.partition_state.PartitionState.{PartitionState}
 use Rattle.vsm_core.specs.declared.request.Request.{Request}
 use Rattle.vsm_core.specs.AtOnce.{SameDid, IsInStep}
 use Rattle.vsm_core.specs.Entries.{words_by_entries}
-use Rattle.vsm_core.specs.Processor.{Vp, Did, IsSameProcessor, origin_of, tree_of, operation_at, does_all, attempted}
+use Rattle.vsm_core.specs.Partition.{opening_standing}
+use Rattle.vsm_core.specs.Processor.{Vp, Did, IsSameProcessor, acts, attempted}
 use Rattle.vsm_core.specs.Served.{after, state_after, joined}
 use Rattle.vsm_core.specs.Whole.{Flat, answer_in, flat_after, with_entries}
 use Rattle.vsm_core.specs.Words.{Holds, answer_of, words_by, memory_at, posted_at}
-use Rattle.vsm_core.proofs.SameAnswers.{attempt-same, attempt-in-step}
+use Rattle.vsm_core.proofs.SameAnswers.{acts-same, acts-in-step}
 use Rattle.guest_script.specs.declared.script.Turns.{Turns}
 use Rattle.guest_script.specs.declared.script.Script.{Script}
 use Rattle.guest_script.specs.Programs.{program_at}
@@ -29,7 +29,7 @@ use Rattle.vsm_report.specs.Opening.{opening_masks, opening_words}
 use Rattle.vsm_report.specs.FlatRun.{World, acted, opening_flat, opened, closed, served, report_of, flat}
 use Rattle.vsm_report.specs.Trace.{Kept, Stepped, after_more, made_steps, stepped, opening_shared, stepped_opening, stepped_report, traced}
 use Rattle.vsm_report.proofs.MaskTurns.{length-fold-with_mask}
-use Rattle.vsm_report.proofs.Processors.{does_all-same, places-set}
+use Rattle.vsm_report.proofs.Processors.{acts-same-processor, places-set}
 
 -- what one processor's turns keep of two worlds in which it acts alike
 turns_alike : {V W : Type 0} (R : V → W → Type 0) (f : V → V) (g : W → W) → ((v : V) (w : W) → R v w → R (f v) (g w)) → (count : ℕ) (v : V) (w : W) → R v w → R (after_turns f count v) (after_turns g count w)
@@ -74,22 +74,6 @@ pub record Alike (first : PartitionState) (limits : Limits) (v : Stepped) (w : W
   pub step : IsInStep limits (state_after first w.partition) w.words
   pub placed : (p : ℕ) (u : Vp) → slice_get w.vps p ≡ Some u → IsPlaced limits p u
 
--- what an attempt does on all shared words, and what it does on the journal and the lists that they hold
-abbrev does_steps : Vp → PartitionState → Option Op → List ℕ → Did (List ℕ)
-does_steps v s op words = does_all (answer_of v.limits v.number) (words_by v.limits v.number) (words_by_entries v.limits) s op v words (tree_of (origin_of v) op)
-
-abbrev does_whole : Vp → PartitionState → Option Op → Flat → Did Flat
-does_whole v s op flat = does_all (answer_in v.limits v.number) (flat_after v.limits v.number) with_entries s op v flat (tree_of (origin_of v) op)
-
--- where a program has no operation, the attempt asks nothing
-tree-same : (v : Vp) (s : PartitionState) (op : Option Op) (words : List ℕ) (flat : Flat) → v.number < v.limits.vps → IsInStep v.limits s flat → Holds v.limits words flat → SameDid v.limits (does_steps v s op words) (does_whole v s op flat)
-tree-same v s None words flat low step h = record { vp = refl; served = refl; holds = h }
-tree-same v s (Some op) words flat low step h = attempt-same v s op words flat low step h
-
-tree-in-step : (v : Vp) (s : PartitionState) (op : Option Op) (flat : Flat) → IsInStep v.limits s flat → IsInStep v.limits (state_after s (does_whole v s op flat).served) (does_whole v s op flat).words
-tree-in-step v s None flat step = step
-tree-in-step v s (Some op) flat step = attempt-in-step v s op flat step
-
 -- two attempts of one processor that come to the same, with a partition in this state
 record SameAttempt (limits : Limits) (p : ℕ) (s : PartitionState) (steps : Did (List ℕ)) (whole : Did Flat) : Type 0 where
   did : SameDid limits steps whole
@@ -99,16 +83,16 @@ record SameAttempt (limits : Limits) (p : ℕ) (s : PartitionState) (steps : Did
 attempt-did : (limits : Limits) (program : Program) (p : ℕ) (v : Vp) (s : PartitionState) (words : List ℕ) (flat : Flat) → IsPlaced limits p v → IsInStep limits s flat → Holds limits words flat → SameAttempt limits p s (made_steps program v s words) (attempted program v s flat)
 unfolding made_steps attempted
 attempt-did limits program p v s words flat is step h =
-    let op = operation_at program v.state in
     let low : v.number < v.limits.vps = subst (λ (l : Limits). v.number < l.vps) (sym is.limits_same) (subst (λ n. n < limits.vps) (sym is.number) is.low) in
     let held : Holds v.limits words flat = subst (λ l. Holds l words flat) (sym is.limits_same) h in
-    let stepped : IsInStep v.limits s flat = subst (λ l. IsInStep l s flat) (sym is.limits_same) step in
-    let whole : Did Flat = does_whole v s op flat in
-    let kept : IsSameProcessor v whole.vp = does_all-same (answer_in v.limits v.number) (flat_after v.limits v.number) with_entries op s v flat (tree_of (origin_of v) op) in
+    let in_step : IsInStep v.limits s flat = subst (λ l. IsInStep l s flat) (sym is.limits_same) step in
+    let steps : Did (List ℕ) = acts (answer_of v.limits v.number) (words_by v.limits v.number) (words_by_entries v.limits) program s v words in
+    let whole : Did Flat = acts (answer_in v.limits v.number) (flat_after v.limits v.number) with_entries program s v flat in
+    let kept : IsSameProcessor v whole.vp = acts-same-processor (answer_in v.limits v.number) (flat_after v.limits v.number) with_entries program s v flat in
     record {
-      did = subst (λ l. SameDid l (does_steps v s op words) whole) is.limits_same (tree-same v s op words flat low stepped held);
+      did = subst (λ l. SameDid l steps whole) is.limits_same (acts-same program v s words flat low in_step held);
       placed = record { limits_same = kept.limits ∙ is.limits_same; number = kept.number ∙ is.number; low = is.low };
-      step = subst (λ l. IsInStep l (state_after s whole.served) whole.words) is.limits_same (tree-in-step v s op flat stepped);
+      step = subst (λ l. IsInStep l (state_after s whole.served) whole.words) is.limits_same (acts-in-step program v s flat in_step);
     }
 
 pub state_after-append : (s : PartitionState) (before more : List (Request × List Entry)) → state_after s (before ++ more) ≡ state_after (state_after s before) more
@@ -211,7 +195,7 @@ opened_alike s all = record {
   lines = refl;
   kept = record { state = refl; journal = refl };
   holds = holds_opening s.limits (opening_masks s) (opening_words s) (length-opening_masks s);
-  step = record { pages = refl; rounds = refl };
+  step = record { vps = length-map-range_with_len (opening_standing s.started) 0 s.limits.vps; pages = refl; rounds = refl };
   placed = opening-placed s all;
 }
 

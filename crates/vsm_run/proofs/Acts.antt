@@ -24,11 +24,11 @@ skips : {A : Type 0} (b : Bool) (x y : A) → b ≡ false → cond b x y ≡ y
 skips true x y e = cc
 skips false x y e = refl
 
-runs : (v : Vp) → v.started ≡ true → is_some v.ended ≡ false → is_running v ≡ true
-runs v started going = rw (started, going) refl
+runs : (v : Vp) → is_some v.ended ≡ false → is_running v ≡ true
+runs v going = rw going refl
 
-has_ended : (v : Vp) → v.started ≡ true → is_some v.ended ≡ true → is_running v ≡ false
-has_ended v started ended = rw (started, ended) refl
+has_ended : (v : Vp) → is_some v.ended ≡ true → is_running v ≡ false
+has_ended v ended = rw ended refl
 
 -- a processor that has no ending
 pub runs_on : (v : Vp) → is_some v.ended ≡ false → v.ended ≡ None
@@ -47,22 +47,22 @@ unfolding stepped
 stepped-none programs p w none = rw none refl
 
 -- the processor of this number has ended
-pub stepped-ended : (programs : List Program) (p : ℕ) (w : Stepped) (v : Vp) → slice_get w.vps p ≡ Some v → v.started ≡ true → is_some v.ended ≡ true → stepped programs p w ≡ w
+pub stepped-ended : (programs : List Program) (p : ℕ) (w : Stepped) (v : Vp) → slice_get w.vps p ≡ Some v → is_some v.ended ≡ true → stepped programs p w ≡ w
 unfolding stepped
-stepped-ended programs p w v found started ended = rw found (skips (is_running v) _ w (has_ended v started ended))
+stepped-ended programs p w v found ended = rw found (skips (is_running v) _ w (has_ended v ended))
 
 -- the processor of this number makes its attempt
-pub stepped-running : (programs : List Program) (p : ℕ) (program : Program) (w : Stepped) (v n : Vp) (before now : PartView) (after : List ℕ) (lines : List Line) → program_at programs p ≡ program → slice_get w.vps p ≡ Some v → v.started ≡ true → v.number ≡ p → is_some v.ended ≡ false
+pub stepped-running : (programs : List Program) (p : ℕ) (program : Program) (w : Stepped) (v n : Vp) (before now : PartView) (after : List ℕ) (lines : List Line) → program_at programs p ≡ program → slice_get w.vps p ≡ Some v → v.number ≡ p → is_some v.ended ≡ false
     → w.partition ≡ kept_of before → IsDone (made_steps program v before.state w.words) n after before now
     → lines ≡ w.lines ++ attempt_lines v.number (made_steps program v before.state w.words).served v n
     → world_of after (kept_of now) (slice_set w.vps p n) lines ≡ stepped programs p w
 unfolding stepped
-stepped-running programs p program w v n before now after lines own found started number going kept done line =
+stepped-running programs p program w v n before now after lines own found number going kept done line =
     let did = made_steps program v before.state w.words in
     let said : lines ≡ w.lines ++ attempt_lines p did.served v n = line ∙ ap (λ q. w.lines ++ attempt_lines q did.served v n) number in
     let vp = done.vp in let words = done.words in let partition = done.partition in
     rw (found, own, kept, said, vp, words, partition)
-    (picks (is_running v) (with_attempt made_steps (λ (k : Kept). k.state) after_more p (record w { partition = kept_of before }) v did) (record w { partition = kept_of before }) (runs v started going))
+    (picks (is_running v) (with_attempt made_steps (λ (k : Kept). k.state) after_more p (record w { partition = kept_of before }) v did) (record w { partition = kept_of before }) (runs v going))
 
 -- the processor at a place, as it is read
 pub found_at : (vps : List Vp) (p : ℕ) (v : Vp) → p < length vps → v ≡ get_or vps p v → slice_get vps p ≡ Some v

@@ -31,7 +31,7 @@ entries_left (Some doing) = doing.rest
 
 -- the partition serves this request, of which these entries are left
 abbrev pub serving : PartView → Request → (gone left : List Entry) → PartView
-serving before r gone left = record {
+serving before r gone left = record before {
   state = after before.state r;
   journal = record before.journal { entries = before.journal.entries ++ gone };
   under = Some (record { rest = left; reply = answer before.state r });
@@ -68,8 +68,8 @@ GoesOn (Done reply) before r first now n g = IsServed before r first reply n g
 
 begun-is : (before : PartView) (r : Request) (es : List Entry) → block before.state r ≡ es → begun before r ≡ serving before r [] es
 begun-is before r es e =
-    ap (λ left. record { state = after before.state r; journal = before.journal; under = Some (record { rest = left; reply = answer before.state r }) }) e
-    ∙ ap (λ all. record { state = after before.state r; journal = record before.journal { entries = all }; under = Some (record { rest = es; reply = answer before.state r }) }) (sym (append-nil before.journal.entries))
+    ap (λ left. record before { state = after before.state r; under = Some (record { rest = left; reply = answer before.state r }) }) e
+    ∙ ap (λ all. record before { state = after before.state r; journal = record before.journal { entries = all }; under = Some (record { rest = es; reply = answer before.state r }) }) (sym (append-nil before.journal.entries))
 
 begins-by : (before : PartView) (r : Request) (first : Plain) (es : List Entry) → block before.state r ≡ es → 1 ≤ length es → AllReach first.limits.vps first.limits.pages es → NoneBusy first.limits first.fabric.words → IsServing before r first (begun before r) first
 begins-by before r first [] e some reach idle = absurd (omega arith)
@@ -146,12 +146,12 @@ not-busy limits f stand vp same told zero busy =
     let z : true ≡ not (0 == 0) = rw zero at b in cc
 
 served-is : (before : PartView) (r : Request) (gone : List Entry) (e : Entry) → before.under ≡ None → gone ++ e ∷ [] ≡ block before.state r
-    → record { state = after before.state r; journal = record before.journal { entries = (before.journal.entries ++ gone) ++ e ∷ [] }; under = None } ≡ with_served before ((r, block before.state r) ∷ [])
+    → record before { state = after before.state r; journal = record before.journal { entries = (before.journal.entries ++ gone) ++ e ∷ [] }; under = None } ≡ with_served before ((r, block before.state r) ∷ [])
 served-is before r gone e free whole =
     let entries : (before.journal.entries ++ gone) ++ e ∷ [] ≡ before.journal.entries ++ (block before.state r ++ []) =
     append_assoc before.journal.entries gone (e ∷ []) ∙ ap (λ es. before.journal.entries ++ es) (whole ∙ sym (append-nil (block before.state r))) in
-    ap (λ es. record { state = after before.state r; journal = record before.journal { entries = es }; under = None }) entries
-    ∙ ap (λ u. record { state = after before.state r; journal = record before.journal { entries = before.journal.entries ++ (block before.state r ++ []) }; under = u }) (sym free)
+    ap (λ es. record before { state = after before.state r; journal = record before.journal { entries = es }; under = None }) entries
+    ∙ ap (λ u. record before { state = after before.state r; journal = record before.journal { entries = before.journal.entries ++ (block before.state r ++ []) }; under = u }) (sym free)
 
 -- the next entry was added
 module _ (before : PartView) (r : Request) (first : Plain) (now n : PartView) (f g : Plain) (stand then : Stand) (turn : PartTurn) (free : before.under ≡ None) (t : Tells f g stand then) where
@@ -167,7 +167,7 @@ module _ (before : PartView) (r : Request) (first : Plain) (now n : PartView) (f
   adds-on gone next (d ∷ ds) split view was reach adds =
       let changed = changed-more first f g gone next reach.0 was (stepped-by f g stand then (step_of next) t adds.step) in
       let new : n ≡ serving before r (gone ++ next ∷ []) (d ∷ ds) =
-      adds.view ∙ ap (λ es. record { state = after before.state r; journal = record before.journal { entries = es }; under = Some (record { rest = d ∷ ds; reply = answer before.state r }) }) (append_assoc before.journal.entries gone (next ∷ [])) in
+      adds.view ∙ ap (λ es. record before { state = after before.state r; journal = record before.journal { entries = es }; under = Some (record { rest = d ∷ ds; reply = answer before.state r }) }) (append_assoc before.journal.entries gone (next ∷ [])) in
       let fewer : length (entries_left n.under) < length (entries_left now.under) = rw (new, view) (omega arith) in
       rw adds.answer (
         record {

@@ -1,9 +1,10 @@
--- What an attempt keeps of its processor, how many marks it adds, and that each request is paid for by a mark.
-use Rattle.std.proofs.Common.{◌≡◌, ◌<◌, ◌≤◌, ◌+◌, ◌-◌, ℕ, Bool, true, false, cond, nat_lt, Option, Some, None, IfSome, List, [], ◌∷◌, ◌++◌, take, length, refl, sym, ap, subst, ◌∙◌, length-append, length-take, arith}
+-- What an attempt, or a start, keeps of its processor, how many marks it adds, and that each request is paid for by a mark.
+use Rattle.std.proofs.Common.{◌≡◌, ◌<◌, ◌≤◌, ◌+◌, ◌-◌, ◌==◌, ℕ, Bool, true, false, cond, nat_lt, Option, Some, None, IfSome, List, [], ◌∷◌, ◌++◌, take, length, refl, sym, ap, subst, ◌∙◌, length-append, length-take, arith}
 use Rattle.std.proofs.lemmas.Bool.Decides.{nat_tests}
 use Rattle.vsm_base.specs.declared.places.Limits.{Limits}
 use Rattle.vsm_core.specs.declared.event.Event.{Event}
 use Rattle.vsm_core.specs.declared.event.Event.TheVariants as events
+use Rattle.vsm_core.specs.declared.event.PendingWord.TheVariants.{Start}
 use Rattle.vsm_core.specs.declared.journal.Entry.{Entry}
 use Rattle.vsm_core.specs.declared.mark.Ending.{Ending}
 use Rattle.vsm_core.specs.declared.mark.Ending.TheVariants as endings
@@ -13,15 +14,16 @@ use Rattle.vsm_core.specs.declared.mark.What.TheVariants.{Again}
 use Rattle.vsm_core.specs.declared.operation.Op.{Op}
 use Rattle.vsm_core.specs.declared.operation.Program.{Program}
 use Rattle.vsm_core.specs.Entries.{words_by_entries}
-use Rattle.vsm_core.specs.Outcomes.{Outcome}
+use Rattle.vsm_core.specs.Outcomes.{Origin, Outcome}
 use Rattle.vsm_core.specs.declared.partition_state.PartitionState.{PartitionState}
 use Rattle.vsm_core.specs.declared.request.Reply.{Reply}
 use Rattle.vsm_core.specs.Keeps.{EndsIn}
 use Rattle.vsm_core.specs.Processor.{Vp, Did, IsSameProcessor, saw, asking, answered, came_to, does_all, marked_or_ended, or_else, ran_out, stopped_by, spun_out, length_of, ending_after, standing, operation_at, origin_of, tree_of}
 use Rattle.vsm_core.specs.Served.{after, answer, block}
+use Rattle.vsm_core.specs.Starts.{start_tree}
 use Rattle.vsm_core.specs.State.{State, rip_of}
 use Rattle.vsm_core.specs.Steps.{made}
-use Rattle.vsm_core.specs.Tree.{Tree, Ends, Asks, Wants, WordStep}
+use Rattle.vsm_core.specs.Tree.{Tree, Ends, Asks, Wants, WordStep, Taking}
 use Rattle.vsm_core.specs.Words.{answer_of, words_by}
 use Rattle.vsm_core.proofs.Requests.{Asked, Unasked, IsNoAgain, NoAgain, IsOwnRequest, own-requests}
 use Rattle.vsm_report.specs.Trace.{made_steps}
@@ -200,56 +202,88 @@ module _ (answers : List ℕ → WordStep → ℕ) (changes : List ℕ → WordS
       let none : length did.served ≡ 0 = ap length rest.none in
       record { one = omega arith; spends = omega arith }
 
+-- what nothing at all adds to the marks
+marks-few : (again : Bool) (marks : List Mark) → AddsFew (cond again (take (length marks - 1) marks) marks) marks
+marks-few true marks = let l = length-take (length marks - 1) marks in record { low = omega arith; few = omega arith }
+marks-few false marks = none_more marks
+
+start-own : (from : Origin) → Asked (IsOwnRequest from.number) (start_tree from)
+start-own from = λ x. record { by = refl; slice = tt; ends = λ reply. (tt, tt) }
+
+saw-none : (program : Program) (v : Vp) (e : Event) → Keeps program (saw None v e)
+saw-none program v (events.Check generation) = tt
+saw-none program v e = tt
+
 module _ (program : Program) (v : Vp) (s : PartitionState) (words : List ℕ) where
   abbrev here : Option Op
   here = operation_at program v.state
 
-  abbrev rest : Tree Outcome
-  rest = tree_of (origin_of v) here
+  -- the tree is done from this processor on, of this operation or of none
+  abbrev does : Option Op → Tree Outcome → Did (List ℕ)
+  does op t = does_all (answer_of v.limits v.number) (words_by v.limits v.number) (words_by_entries v.limits) s op v words t
+
+  abbrev starts : Tree Outcome
+  starts = start_tree (origin_of v)
+
+  -- an attempt, nothing at all, or a start
+  by_kind : (P : Did (List ℕ) → Type 0) → P (does here (tree_of (origin_of v) here)) → P (record { vp = v; words = words; served = [] }) → P (does None starts) → P (made_steps program v s words)
+  unfolding made_steps
+  by_kind P attempts waits begins = either v.started _ _ attempts (either (answer_of v.limits v.number words (Taking Start) == 0) _ _ waits begins) where
+    either : (b : Bool) (x y : Did (List ℕ)) → P x → P y → P (cond b x y)
+    either true x y h g = h
+    either false x y h g = g
+
+  -- of an attempt and of a start
+  by_both : (P : Did (List ℕ) → Type 0) → ((op : Option Op) (t : Tree Outcome) → P (does op t)) → P (record { vp = v; words = words; served = [] }) → P (made_steps program v s words)
+  by_both P does_so waits = by_kind P (does_so here (tree_of (origin_of v) here)) waits (does_so None starts)
 
   pub made_steps-same : IsSameProcessor v (made_steps program v s words).vp
-  unfolding made_steps
-  made_steps-same = does_all-same (answer_of v.limits v.number) (words_by v.limits v.number) (words_by_entries v.limits) here s v words rest
+  made_steps-same =
+      by_both (λ did. IsSameProcessor v did.vp) (λ op t. does_all-same (answer_of v.limits v.number) (words_by v.limits v.number) (words_by_entries v.limits) op s v words t)
+      (record { number = refl; limits = refl; zero_length = refl; one_length = refl; started = λ h. h })
 
   -- what follows from what its events keep
-  by_sees : (Q : Vp → Type 0) → ((u : Vp) (o : Outcome) → Sees v u → Q (came_to o.what u o)) → Q (made_steps program v s words).vp
-  unfolding made_steps
-  by_sees Q ends =
-      by_end (answer_of v.limits v.number) (words_by v.limits v.number) (words_by_entries v.limits) here (Sees v) Q
-      (λ u e h. let g = saw-sees here u e in record { limits = g.limits ∙ h.limits; state = g.state ∙ h.state; stood = g.stood ∙ h.stood; ended = g.ended ∙ h.ended })
+  by_sees : (Q : Vp → Type 0) → ((u : Vp) (o : Outcome) → Sees v u → Q (came_to o.what u o)) → Q v → Q (made_steps program v s words).vp
+  by_sees Q ends waits =
+      by_both (λ did. Q did.vp) (λ op t.
+      by_end (answer_of v.limits v.number) (words_by v.limits v.number) (words_by_entries v.limits) op (Sees v) Q
+      (λ u e h. let g = saw-sees op u e in record { limits = g.limits ∙ h.limits; state = g.state ∙ h.state; stood = g.stood ∙ h.stood; ended = g.ended ∙ h.ended })
       (λ u reply h. record { limits = h.limits; state = h.state; stood = h.stood; ended = h.ended })
-      ends s v words rest (sees-itself v)
+      ends s v words t (sees-itself v)) waits
 
   pub made_steps-few : AddsFew (standing v) (made_steps program v s words).vp.marks
-  made_steps-few = by_sees (λ n. AddsFew (standing v) n.marks) (λ u o h. subst (λ ms. AddsFew ms (came_to o.what u o).marks) h.stood (came_to-few o.what u o))
+  made_steps-few = by_sees (λ n. AddsFew (standing v) n.marks) (λ u o h. subst (λ ms. AddsFew ms (came_to o.what u o).marks) h.stood (came_to-few o.what u o)) (marks-few v.again v.marks)
 
   pub made_steps-stands : length (standing (made_steps program v s words).vp) ≤ length (standing v) + 1
   made_steps-stands =
-      let n = (made_steps program v s words).vp in
-      let later = stood_later n.again n.marks in
-      let few = made_steps-few.few in
-      omega arith
+      by_sees (λ n. length (standing n) ≤ length (standing v) + 1)
+      (λ u o h. let n = came_to o.what u o in let later = stood_later n.again n.marks in let few = (subst (λ ms. AddsFew ms n.marks) h.stood (came_to-few o.what u o)).few in omega arith) (omega arith)
 
   pub made_steps-pays : Pays (standing v) (made_steps program v s words)
-  unfolding made_steps
-  made_steps-pays = does_all-pays (answer_of v.limits v.number) (words_by v.limits v.number) (words_by_entries v.limits) here v.number s v words rest (own-requests (origin_of v) here None [])
+  made_steps-pays =
+      by_kind (Pays (standing v))
+      (does_all-pays (answer_of v.limits v.number) (words_by v.limits v.number) (words_by_entries v.limits) here v.number s v words (tree_of (origin_of v) here) (own-requests (origin_of v) here None []))
+      (record { one = omega arith; spends = omega arith })
+      (does_all-pays (answer_of v.limits v.number) (words_by v.limits v.number) (words_by_entries v.limits) None v.number s v words starts (start-own (origin_of v)))
 
   made_steps-keeps : Keeps program v → Keeps program (made_steps program v s words).vp
-  unfolding made_steps
   made_steps-keeps h =
-      by_end (answer_of v.limits v.number) (words_by v.limits v.number) (words_by_entries v.limits) here (IsHere program here) (Keeps program)
+      by_kind (λ did. Keeps program did.vp)
+      (by_end (answer_of v.limits v.number) (words_by v.limits v.number) (words_by_entries v.limits) here (IsHere program here) (Keeps program)
       (saw-here program here) (λ u reply g. record { here = g.here; kept = keeps_same (operation_at program u.state) here g.here })
-      (λ u o g. came_to-keeps program o.what u o g.kept) s v words rest (record { here = refl; kept = h })
+      (λ u o g. came_to-keeps program o.what u o g.kept) s v words (tree_of (origin_of v) here) (record { here = refl; kept = h })) h
+      (by_end (answer_of v.limits v.number) (words_by v.limits v.number) (words_by_entries v.limits) None (Keeps program) (Keeps program)
+      (λ u e g. saw-none program u e) (λ u reply g. tt) (λ u o g. came_to-keeps program o.what u o g) s v words starts h)
 
   made_steps-owes : v.owes ≡ false → (made_steps program v s words).vp.owes ≡ false
-  unfolding made_steps
   made_steps-owes owes =
-      by_end (answer_of v.limits v.number) (words_by v.limits v.number) (words_by_entries v.limits) here (λ u. u.owes ≡ false) (λ u. u.owes ≡ false)
-      (saw-owes here) (λ u reply g. refl) (λ u o g. came_to-owes o.what u o ∙ g) s v words rest owes
+      by_both (λ did. did.vp.owes ≡ false) (λ op t.
+      by_end (answer_of v.limits v.number) (words_by v.limits v.number) (words_by_entries v.limits) op (λ u. u.owes ≡ false) (λ u. u.owes ≡ false)
+      (saw-owes op) (λ u reply g. refl) (λ u o g. came_to-owes o.what u o ∙ g) s v words t owes) owes
 
   made_steps-left : HasMarkLeft v → HasMarkLeft (made_steps program v s words).vp
   made_steps-left left =
-      by_sees HasMarkLeft (λ u o h. came_to-left o.what u o (λ e. rw (h.stood, h.limits) (left (sym h.ended ∙ e))))
+      by_sees HasMarkLeft (λ u o h. came_to-left o.what u o (λ e. rw (h.stood, h.limits) (left (sym h.ended ∙ e)))) left
 
   pub made_steps-fits : FitsOne program v → FitsOne program (made_steps program v s words).vp
   made_steps-fits fits = record {
@@ -263,7 +297,6 @@ module _ (program : Program) (v : Vp) (s : PartitionState) (words : List ℕ) wh
     number = made_steps-same.number ∙ place.number;
     low = place.low;
     limits_same = made_steps-same.limits ∙ place.limits_same;
-    started = made_steps-same.started ∙ place.started;
     rests = rests;
     answered = made_steps-owes place.answered;
     unheard = unheard;

@@ -10,17 +10,19 @@ use Rattle.vsm_base.specs.declared.status.HvStatus.{HvStatus}
 use Rattle.vsm_base.specs.declared.status.TheConstants.HvStatus as statuses
 use Rattle.vsm_core.specs.declared.journal.Entry.{Entry}
 use Rattle.vsm_core.specs.declared.journal.Entry.TheVariants as entries
+use Rattle.vsm_core.specs.declared.partition_state.Accepted.{Accepted}
 use Rattle.vsm_core.specs.declared.partition_state.PartitionState.{PartitionState}
 use Rattle.vsm_core.specs.declared.request.PartCall.{PartCall}
-use Rattle.vsm_core.specs.declared.request.PartCall.TheVariants.{EnablePartition, EnableVp, Modify, Flush, ReadStatus, ReadConfig, WriteConfig}
+use Rattle.vsm_core.specs.declared.request.PartCall.TheVariants.{EnablePartition, EnableVp, Start, Modify, Flush, ReadStatus, ReadConfig, WriteConfig, Fetch}
 use Rattle.vsm_core.specs.declared.request.Request.{Request}
 use Rattle.vsm_core.specs.Blocks.{ask, clear, round}
 use Rattle.vsm_core.specs.Calls.{first_failed}
-use Rattle.vsm_core.specs.Partition.{named, index_of, enable_partition_checks, enable_vp_checks}
+use Rattle.vsm_core.specs.Partition.{standing, named, index_of, target_of, enable_partition_checks, enable_vp_checks, start_checks}
 use Rattle.vsm_core.specs.Protection.{IsSlice, map_flags, modify_checks, page_refusal, page_refusals, config_checks, asks_for, asks_for_all}
 use Rattle.vsm_core.specs.Reps.{acting, refusing}
-use Rattle.vsm_core.specs.Served.{Service, refused, judged, enable_partition, enable_vp, with_round, modify_some, modify, write_config, serve_call, serve}
+use Rattle.vsm_core.specs.Served.{Service, refused, judged, enable_partition, enable_vp, start_vp, fetch_of, with_round, modify_some, modify, write_config, serve_call, serve}
 use Rattle.vsm_core.specs.Status.{protects, default_mask}
+use Rattle.vsm_core.specs.Targets.{level_of}
 
 -- a page that an entry asks for, and a processor that it clears, are among so many
 abbrev pub Reaches : (vps pages : ℕ) → Entry → Type 0
@@ -112,6 +114,10 @@ write_config-fine s by value = either (not (protects s.config) && protects value
   either true = record { some = omega arith; reach = (tt, round-reach (length s.vps) s.pages asks (s.rounds + 1) by (run-reach (length s.vps) s.pages (default_mask value) 0 s.pages (omega arith))); done = omega arith }
   either false = record { some = omega arith; reach = (tt, tt); done = omega arith }
 
+fetch-fine : (s : PartitionState) (by : VpIndex) (start : Option Accepted) → IsServable s (fetch_of s by start)
+fetch-fine s by None = refused-fine s by 0 statuses.INVALID_VP_STATE (omega arith)
+fetch-fine s by (Some start) = record { some = omega arith; reach = (tt, tt); done = omega arith }
+
 call-fine : (s : PartitionState) (by : VpIndex) (level : Vtl) (call : PartCall) → IsSlice call → IsServable s (serve_call s by level call)
 call-fine s by level (EnablePartition words) slice =
     judged-fine s by 0 (first_failed (enable_partition_checks s words)) (enable_partition s by) (omega arith) (record { some = omega arith; reach = (tt, tt); done = omega arith })
@@ -125,7 +131,10 @@ call-fine s by level (Flush total) slice = round-fine s by [] statuses.SUCCESS t
 call-fine s by level ReadStatus slice = record { some = omega arith; reach = (tt, tt); done = omega arith }
 call-fine s by level ReadConfig slice = record { some = omega arith; reach = (tt, tt); done = omega arith }
 call-fine s by level (WriteConfig value) slice = judged-fine s by 0 (first_failed (config_checks s.config value)) (write_config s by value) (omega arith) (write_config-fine s by value)
-call-fine s by level _ slice = refused-fine s by 0 _ (omega arith)
+call-fine s by level (Start words) slice =
+    let vp = named by.0 (index_of words) in
+    judged-fine s by 0 (first_failed (start_checks s level vp words (drop 2 words))) (start_vp s by vp (level_of (target_of words)) (drop 2 words)) (omega arith) (record { some = omega arith; reach = (tt, tt); done = omega arith })
+call-fine s by level Fetch slice = fetch-fine s by (standing s by.0).start
 
 pub servable : (s : PartitionState) (r : Request) → IsSlice r.call → IsServable s (serve s r)
 servable s r slice = call-fine s r.by r.level r.call slice

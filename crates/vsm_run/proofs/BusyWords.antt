@@ -5,6 +5,7 @@ use Rattle.std.proofs.lemmas.Bool.Decides.{eqb_tells}
 use Rattle.std.proofs.lemmas.Grind.{get_or-set_at}
 use Rattle.std.proofs.lemmas.List.{get_or-set_other}
 use Rattle.vsm_base.specs.declared.places.Limits.{Limits}
+use Rattle.vsm_core.specs.declared.event.PendingWord.{PendingWord}
 use Rattle.vsm_core.specs.declared.event.Phase.{Phase}
 use Rattle.vsm_core.specs.declared.event.Phase.TheVariants.{Idle}
 use Rattle.vsm_core.specs.Seat.{Fabric}
@@ -61,3 +62,8 @@ step-agrees limits p s x f g there long words phases agrees = λ q low idle. sub
       subst (λ i. slice_index (words_by limits p f.words s) (busy_at limits i) ≡ 0) (sym here.1) (own-busy limits p f.words s x (get_or f.phases p Idle) low_p long (λ e. agrees p low_p e) after)
   go q low (inr other) idle =
       other-busy limits p f.words q low other.1 s ∙ agrees q low (sym (get_or-set_other f.phases p q (phase_after (get_or f.phases p Idle) s x) Idle other.1) ∙ idle)
+
+-- a word that is posted to is no busy word
+pub taking-agrees : (limits : Limits) (p : ℕ) (word : PendingWord) (f g : Fabric) → g.words ≡ words_by limits p f.words (Taking word) → g.phases ≡ f.phases → Agrees limits f → Agrees limits g
+taking-agrees limits p word f g words phases agrees = λ q low idle.
+    subst (λ ws. slice_index ws (busy_at limits q) ≡ 0) (sym words) (behind limits p f.words q low (posted_place limits p word) 0 ∙ agrees q low (subst (λ ps. get_or ps q Idle ≡ Idle) phases idle))

@@ -1,5 +1,5 @@
 -- A whole attempt, turn by turn, to its end.
-use Rattle.std.proofs.Common.{◌≡◌, ◌≢◌, ◌<◌, ◌≤◌, ◌+◌, ◌*◌, ◌⊎◌, inl, inr, eqb, ℕ, true, false, Option, Some, None, IfSome, List, [], ◌∷◌, ◌++◌, drop, get_or, map, length, reverse, refl, sym, ap, subst, ◌∙◌, append_assoc, length-append, arith}
+use Rattle.std.proofs.Common.{◌≡◌, ◌≢◌, ◌<◌, ◌≤◌, ◌+◌, ◌*◌, ◌⊎◌, inl, inr, eqb, ℕ, Bool, true, false, cond, Option, Some, None, IfSome, List, [], ◌∷◌, ◌++◌, drop, get_or, map, length, reverse, refl, sym, ap, subst, ◌∙◌, append_assoc, length-append, arith}
 use Rattle.std.proofs.Math.Seq.{drop-length}
 use Rattle.std.proofs.lemmas.Bool.Decides.{eqb_tells}
 use Rattle.std.proofs.lemmas.List.{append-nil}
@@ -73,21 +73,25 @@ pub record IsOn (op : Option Op) (start : Vp) (words : List ℕ) (before : PartV
   pub phase : get_or fabric.phases start.number Idle ≡ phase_at v.seen v.first
   pub others : (q : ℕ) → q ≢ start.number → get_or fabric.phases q Idle ≡ Idle
 
-none-seen : (seen : List Event) (first : ℕ) → first ≡ length seen → drop first seen ≡ []
+pub none-seen : (seen : List Event) (first : ℕ) → first ≡ length seen → drop first seen ≡ []
 none-seen seen first e = rw e (drop-length seen)
 
 -- at rest a processor is in no access
 rest-idle : (v : Vp) → IsAtRest v → phase_at v.seen v.first ≡ Idle
 rest-idle v rests = ap (λ es. phase_of (reverse es)) (none-seen v.seen v.first rests)
 
--- from rest on, the rest of the attempt is all of it
-pub made-rest : (program : Program) (limits : Limits) (v : Vp) (s : PartitionState) (words : List ℕ) → IsAtRest v → v.heard ≡ None → v.limits ≡ limits → made_steps program v s words ≡ does_rest limits v.number (operation_at program v.state) s v words
+pub picked : {A : Type 0} (b : Bool) (x y : A) → b ≡ true → cond b x y ≡ x
+picked true x y e = refl
+picked false x y e = cc
+
+-- from rest on, the rest of the attempt of a processor that has started is all of it
+pub made-rest : (program : Program) (limits : Limits) (v : Vp) (s : PartitionState) (words : List ℕ) → v.started ≡ true → IsAtRest v → v.heard ≡ None → v.limits ≡ limits → made_steps program v s words ≡ does_rest limits v.number (operation_at program v.state) s v words
 unfolding made_steps
-made-rest program limits v s words rests unheard same =
+made-rest program limits v s words started rests unheard same =
     let op = operation_at program v.state in
     let t = tree_of (origin_of v) op in
     let all : rest_of v op ≡ t = ap (λ h. followed t h (answers_of v.seen v.first)) unheard ∙ ap (λ es. follow t (map learned es)) (none-seen v.seen v.first rests) in
-    ap (λ u. does_all (answer_of v.limits v.number) (words_by v.limits v.number) (words_by_entries v.limits) s op v words u) (sym all) ∙ ap (λ (l : Limits). does_all (answer_of l v.number) (words_by l v.number) (words_by_entries l) s op v words (rest_of v op)) same
+    picked v.started _ _ started ∙ ap (λ u. does_all (answer_of v.limits v.number) (words_by v.limits v.number) (words_by_entries v.limits) s op v words u) (sym all) ∙ ap (λ (l : Limits). does_all (answer_of l v.number) (words_by l v.number) (words_by_entries l) s op v words (rest_of v op)) same
 
 -- where an attempt begins, all that it asks may be asked
 tree-sound : (limits : Limits) (op : Option Op) (v : Vp) → v.number < limits.vps → v.limits ≡ limits → Sound limits IsOver [] (tree_of (origin_of v) op)
@@ -112,7 +116,7 @@ on-at-first program limits start fabric before fits place going idle room agrees
       served = [];
       partition = sym (with_none before);
       same_end = refl;
-      same = record { number = refl; limits = refl; zero_length = refl; one_length = refl; started = refl };
+      same = record { number = refl; limits = refl; zero_length = refl; one_length = refl; started = λ h. h };
       state = refl;
       kept = fits.kept;
       going = going;

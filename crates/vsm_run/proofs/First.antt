@@ -4,7 +4,6 @@ use Rattle.std.specs.Prelude.{slice_index}
 use Rattle.std.specs.List.{range_with_len}
 use Rattle.std.proofs.Math.ListN.{get_or-append}
 use Rattle.std.proofs.lemmas.List.{length-replicate, get_or-append_right, get_or-replicate}
-use Rattle.std.proofs.lemmas.Bool.Decides.{nat_tests}
 use Rattle.std.proofs.lemmas.List.FromFn.{length-map-range_with_len, get_or-map-range_with_len, map-range_with_len_more}
 use Rattle.std.proofs.lemmas.Option.{slice_get_within, get_or_from_slice_get}
 use Rattle.vsm_core.specs.declared.event.Phase.TheVariants.{Idle}
@@ -69,13 +68,12 @@ length-opening_vps s = length-map-range_with_len (opening_vp s) 0 (length s.prog
 opening-left : (started : Bool) (number : ℕ) (limits : Limits) (zeros ones : ℕ) → 1 ≤ limits.budget → HasMarkLeft (opening number limits started zeros ones)
 opening-left started number limits zeros ones some = λ e. omega arith
 
-module _ (s : Script) (programs : length s.programs ≡ s.limits.vps) (started : s.started ≡ s.limits.vps) (some : 1 ≤ s.limits.budget) where
+module _ (s : Script) (programs : length s.programs ≡ s.limits.vps) (some : 1 ≤ s.limits.budget) where
   first-in-place : (p : ℕ) → p < length s.programs → IsInPlace s.limits p (opening_vp s p)
   first-in-place p low = record {
     number = refl;
     low = subst (λ n. p < n) programs low;
     limits_same = refl;
-    started = grind (arith, nat_tests, programs, started);
     rests = refl;
     answered = refl;
     unheard = refl;

@@ -9,5 +9,6 @@ pub mod Finishes
 pub mod First
 pub mod Reports
 pub mod Serves
+pub mod Starting
 pub mod Turning
 pub mod Wholes

@@ -35,8 +35,8 @@ with_none p = ap (λ es. record p { journal = record p.journal { entries = es } 
 pub with_more : (p : PartView) (served more : List (Request × List Entry)) → with_served (with_served p served) more ≡ with_served p (served ++ more)
 with_more p served more =
     let entries = append_assoc p.journal.entries (joined served) (joined more) ∙ ap (λ es. p.journal.entries ++ es) (sym (joined-append served more)) in
-    ap (λ s. record { state = s; journal = record p.journal { entries = (p.journal.entries ++ joined served) ++ joined more }; under = p.under }) (sym (state_after-append p.state served more))
-    ∙ ap (λ es. record { state = state_after p.state (served ++ more); journal = record p.journal { entries = es }; under = p.under }) entries
+    ap (λ s. record p { state = s; journal = record p.journal { entries = (p.journal.entries ++ joined served) ++ joined more } }) (sym (state_after-append p.state served more))
+    ∙ ap (λ es. record p { state = state_after p.state (served ++ more); journal = record p.journal { entries = es } }) entries
 
 pub times-most : (each a b : ℕ) → a ≤ b → each * a ≤ each * b
 times-most each a b le = grind arith

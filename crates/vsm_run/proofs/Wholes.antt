@@ -86,10 +86,10 @@ saw-sees op v (events.Check generation) is =
     let part = is.part in let first = is.first in
     let long : length ((take v.part v.seen ++ drop v.first v.seen) ++ events.Check generation ∷ []) + v.first ≡ length v.seen + v.part + 1 =
     omega (arith, length-append (take v.part v.seen ++ drop v.first v.seen) (events.Check generation ∷ []), length-append (take v.part v.seen) (drop v.first v.seen), length-take-le v.part v.seen part, length-drop v.first v.seen) in
-    record { same = record { number = refl; limits = refl; zero_length = refl; one_length = refl; started = refl }; state = refl; kept = refl; ended = refl; part = omega arith; nearer = long }
+    record { same = record { number = refl; limits = refl; zero_length = refl; one_length = refl; started = λ h. h }; state = refl; kept = refl; ended = refl; part = omega arith; nearer = long }
 saw-sees op v e is =
     let part = is.part in let first = is.first in let long = length-append v.seen (e ∷ []) in
-    record { same = record { number = refl; limits = refl; zero_length = refl; one_length = refl; started = refl }; state = refl; kept = refl; ended = refl; part = omega arith; nearer = omega arith }
+    record { same = record { number = refl; limits = refl; zero_length = refl; one_length = refl; started = λ h. h }; state = refl; kept = refl; ended = refl; part = omega arith; nearer = omega arith }
 
 again-rests : (v : Vp) (o : Outcome) (ending : Option Ending) → v.part ≤ length v.seen → IsAtRest (marked_or_ended v o ending)
 again-rests v o None le = refl
@@ -176,14 +176,14 @@ pub record Tells (limits : Limits) (p : ℕ) (before now : Seat) (f g : Fabric) 
   pub number : before.vp ≡ p
 
 -- a step at such a way
-record Stepped (limits : Limits) (p : ℕ) (s : WordStep) (x : ℕ) (phase : Phase) (f g : Fabric) : Type 0 where
-  answer : x ≡ answer_of limits p f.words s
-  words : g.words ≡ words_by limits p f.words s
-  phases : g.phases ≡ slice_set f.phases p (phase_after phase s x)
-  turns : g.turns ≡ f.turns
-  cleared : g.cleared ≡ f.cleared
+pub record Stepped (limits : Limits) (p : ℕ) (s : WordStep) (x : ℕ) (phase : Phase) (f g : Fabric) : Type 0 where
+  pub answer : x ≡ answer_of limits p f.words s
+  pub words : g.words ≡ words_by limits p f.words s
+  pub phases : g.phases ≡ slice_set f.phases p (phase_after phase s x)
+  pub turns : g.turns ≡ f.turns
+  pub cleared : g.cleared ≡ f.cleared
 
-makes-told : (limits : Limits) (p : ℕ) (s : WordStep) (x : ℕ) (before now : Seat) (f g : Fabric) → Tells limits p before now f g → Makes before s x now → Stepped limits p s x before.phase f g
+pub makes-told : (limits : Limits) (p : ℕ) (s : WordStep) (x : ℕ) (before now : Seat) (f g : Fabric) → Tells limits p before now f g → Makes before s x now → Stepped limits p s x before.phase f g
 makes-told limits p s x before now f g t makes =
     let answer : x ≡ answer_of before.limits before.vp f.words s = rw t.told at makes.answer in
     let known : Some g ≡ Some (fabric_after before.limits before.vp (phase_after before.phase s x) s f) =

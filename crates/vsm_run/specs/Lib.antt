@@ -4,4 +4,5 @@ pub mod Rests
 pub mod Rooms
 pub mod Running
 pub mod Serving
+pub mod Starting
 pub mod Wholes

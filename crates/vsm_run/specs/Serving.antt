@@ -20,10 +20,9 @@ kept_of p = record { state = p.state; journal = p.journal.entries }
 
 -- the partition once these requests were served too
 abbrev pub with_served : PartView → List (Request × List Entry) → PartView
-with_served p more = record {
+with_served p more = record p {
   state = state_after p.state more;
   journal = record p.journal { entries = p.journal.entries ++ joined more };
-  under = p.under;
 }
 
 -- the partition serves no request, and has the processors and the pages of these limits

@@ -1,7 +1,8 @@
 // One processor acts.
 ghost use Rattle.std.specs.Prelude.{◌≡◌, ◌≢◌, ℕ, ◌+◌, ◌*◌, ◌≤◌, ◌<◌, [], ◌∷◌, ◌++◌, length, map, get_or, true, false, None};
 ghost use Rattle.vsm_core.specs.Entries.{words_by_entries};
-ghost use Rattle.vsm_core.specs.Processor.{operation_at, standing};
+ghost use Rattle.vsm_core.specs.Hypercalls.{asked_of};
+ghost use Rattle.vsm_core.specs.Processor.{asking, operation_at, origin_of, standing, start_rest};
 ghost use Rattle.vsm_core.specs.Protection.{IsSlice, owed};
 ghost use Rattle.vsm_core.specs.Served.{answer, block};
 ghost use Rattle.cpu.specs.Turns.{HandsSlice, OwesBy, phase_at};
@@ -10,13 +11,14 @@ ghost use Rattle.vsm_report.specs.Trace.{made_steps};
 ghost use Rattle.vsm_run.specs.Fits.{FitsOne};
 ghost use Rattle.vsm_run.specs.Rests.{AllIdle, IsAtRest, IsInPlace};
 ghost use Rattle.vsm_run.specs.Serving.{AddsFew, Agrees, HasRoomForOne, IsDone, IsFree, IsPacedBy, NoneBusy, with_served};
+ghost use Rattle.vsm_run.specs.Starting.{StartsBy, fetches};
 ghost use Rattle.vsm_run.specs.Wholes.{HasHeard, Leads};
 
 use cpu::{Cpu, CpuTurn};
 use fabric::PlainFabric;
 use partition::{PartTurn, Partition};
 use vsm_base::{Reserved, VpIndex};
-use vsm_core::{Entry, Mark, Phase, Program, Reply, Request};
+use vsm_core::{Entry, Mark, PartCall, Phase, Program, Reply, Request};
 use vsm_report::{Line, add_entry, add_mark};
 
 // Lets a processor make one turn.
@@ -79,6 +81,7 @@ fn serve(partition: &mut Partition, fabric: &mut PlainFabric, request: Request) 
 // processor acts meanwhile.
 fn attempt_at(fabric: &mut PlainFabric, partition: &mut Partition, cpu: &mut Cpu, program: &Program)
     requires going { cpu.old.ended ≡ None }
+    requires started { cpu.old.started ≡ true }
     requires place { IsInPlace fabric.old.limits cpu.old.number cpu.old }
     requires fits { FitsOne program.now cpu.old }
     requires idle { AllIdle fabric.old.fabric.phases }
@@ -110,6 +113,103 @@ fn attempt_at(fabric: &mut PlainFabric, partition: &mut Partition, cpu: &mut Cpu
     }
 }
 
+// Lets a processor that hasn't started take from its start word. Where that was 0 nothing changes.
+fn take_at(fabric: &mut PlainFabric, cpu: &mut Cpu, program: &Program) -> CpuTurn
+    requires going { cpu.old.ended ≡ None }
+    requires waits { cpu.old.started ≡ false }
+    requires place { IsInPlace fabric.old.limits cpu.old.number cpu.old }
+    requires fits { FitsOne program.now cpu.old }
+    requires idle { AllIdle fabric.old.fabric.phases }
+    ensures takes { StartsBy result fabric.old.limits cpu.old cpu.new fabric.old.fabric.words fabric.new.fabric.words }
+    ensures limits { fabric.new.limits ≡ fabric.old.limits }
+    ensures phases { fabric.new.fabric.phases ≡ fabric.old.fabric.phases }
+    ensures turns { fabric.new.fabric.turns ≡ fabric.old.fabric.turns }
+    ensures cleared { fabric.new.fabric.cleared ≡ fabric.old.fabric.cleared }
+    ensures agrees { Agrees fabric.old.limits fabric.old.fabric → Agrees fabric.old.limits fabric.new.fabric }
+{
+    let vp = cpu.vp();
+    let mut port = fabric.port(vp);
+    let turn = cpu.turn(&mut port, program);
+    let _vp = cpu.vp();
+    turn
+}
+
+// Lets a processor that has taken a start from its start word ask for its contexts, by which no word changes.
+fn fetch_at(fabric: &mut PlainFabric, cpu: &mut Cpu, program: &Program) -> Request
+    requires going { cpu.old.ended ≡ None }
+    requires waits { cpu.old.started ≡ false }
+    requires answered { cpu.old.owes ≡ false }
+    requires fits { FitsOne program.now cpu.old }
+    requires limits { cpu.old.limits ≡ fabric.old.limits }
+    requires phase { get_or fabric.old.fabric.phases cpu.old.number Phase.Idle ≡ phase_at cpu.old.seen cpu.old.first }
+    requires taken { start_rest cpu.old ≡ fetches (origin_of cpu.old) }
+    ensures request { result ≡ asked_of (origin_of cpu.old) PartCall.Fetch }
+    ensures asks { cpu.new ≡ asking None cpu.old }
+    ensures stays { fabric.new ≡ fabric.old }
+{
+    let vp = cpu.vp();
+    let mut port = fabric.port(vp);
+    let CpuTurn::Wants(request) = cpu.turn(&mut port, program) else {
+        unreachable!()
+    };
+    request
+}
+
+// Lets a processor that hasn't started take from its start word, and where that was posted to it fetches its contexts and
+// starts with them. No other processor acts meanwhile.
+fn start_at(fabric: &mut PlainFabric, partition: &mut Partition, cpu: &mut Cpu, program: &Program)
+    requires going { cpu.old.ended ≡ None }
+    requires waits { cpu.old.started ≡ false }
+    requires place { IsInPlace fabric.old.limits cpu.old.number cpu.old }
+    requires fits { FitsOne program.now cpu.old }
+    requires idle { AllIdle fabric.old.fabric.phases }
+    requires free { IsFree fabric.old.limits partition.old }
+    requires paced { IsPacedBy partition.old fabric.old }
+    requires agrees { Agrees fabric.old.limits fabric.old.fabric }
+    requires room { HasRoomForOne partition.old }
+    ensures done { IsDone (made_steps program.now cpu.old partition.old.state fabric.old.fabric.words) cpu.new fabric.new.fabric.words partition.old partition.new }
+    ensures few { AddsFew (length partition.old.state.vps + 11) (made_steps program.now cpu.old partition.old.state fabric.old.fabric.words) partition.old partition.new }
+    ensures limits { fabric.new.limits ≡ fabric.old.limits }
+    ensures rests { IsAtRest cpu.new }
+    ensures unheard { cpu.new.heard ≡ None }
+    ensures idle { AllIdle fabric.new.fabric.phases }
+    ensures agrees { Agrees fabric.old.limits fabric.new.fabric }
+    ensures paced { IsPacedBy partition.new fabric.new }
+{
+    let CpuTurn::Moved = take_at(fabric, cpu, program) else {
+        return;
+    };
+    let request = fetch_at(fabric, cpu, program);
+    let reply = serve(partition, fabric, request);
+    let _turn = cpu.accept(reply);
+}
+
+// Lets a processor make its attempt, or its start where it hasn't started, to the end.
+fn make_at(fabric: &mut PlainFabric, partition: &mut Partition, cpu: &mut Cpu, program: &Program)
+    requires going { cpu.old.ended ≡ None }
+    requires place { IsInPlace fabric.old.limits cpu.old.number cpu.old }
+    requires fits { FitsOne program.now cpu.old }
+    requires idle { AllIdle fabric.old.fabric.phases }
+    requires free { IsFree fabric.old.limits partition.old }
+    requires paced { IsPacedBy partition.old fabric.old }
+    requires agrees { Agrees fabric.old.limits fabric.old.fabric }
+    requires room { HasRoomForOne partition.old }
+    ensures done { IsDone (made_steps program.now cpu.old partition.old.state fabric.old.fabric.words) cpu.new fabric.new.fabric.words partition.old partition.new }
+    ensures few { AddsFew (length partition.old.state.vps + 11) (made_steps program.now cpu.old partition.old.state fabric.old.fabric.words) partition.old partition.new }
+    ensures limits { fabric.new.limits ≡ fabric.old.limits }
+    ensures rests { IsAtRest cpu.new }
+    ensures unheard { cpu.new.heard ≡ None }
+    ensures idle { AllIdle fabric.new.fabric.phases }
+    ensures agrees { Agrees fabric.old.limits fabric.new.fabric }
+    ensures paced { IsPacedBy partition.new fabric.new }
+{
+    if cpu.started() {
+        attempt_at(fabric, partition, cpu, program);
+    } else {
+        start_at(fabric, partition, cpu, program);
+    }
+}
+
 // Adds the lines of entries, in room that was taken before.
 fn add_entries(lines: &mut Reserved<Line>, entries: &[Entry])
     requires { length lines.old.0 + length entries.now ≤ lines.old.1 }
@@ -130,8 +230,8 @@ fn add_marks(lines: &mut Reserved<Line>, vp: VpIndex, marks: &[Mark])
     }
 }
 
-/// Lets a processor that runs act: it makes a whole attempt, and the lines of the entries and of the mark that this leaves
-/// are added.
+/// Lets a processor that has not ended act: it makes a whole attempt, or starts if that was posted to it, and the lines of
+/// the entries and of the mark that this leaves are added.
 pub fn act_at(
     fabric: &mut PlainFabric,
     partition: &mut Partition,
@@ -164,7 +264,7 @@ pub fn act_at(
     let vp = cpu.vp();
     let stood = cpu.standing();
     let before = partition.journal().entries().len();
-    attempt_at(fabric, partition, cpu, program);
+    make_at(fabric, partition, cpu, program);
     add_entries(lines, &partition.journal().entries()[before..]);
     add_marks(lines, vp, &cpu.marks()[stood..]);
 }

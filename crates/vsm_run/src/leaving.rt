@@ -1,10 +1,9 @@
 // What a run leaves.
-ghost use Rattle.std.specs.Prelude.{◌≡◌, ◌+◌, ◌≤◌, ◌++◌, IfOk, IsTrue, length, map, take, drop, true};
+ghost use Rattle.std.specs.Prelude.{◌≡◌, ◌+◌, ◌≤◌, ◌++◌, IfOk, IsTrue, length, map, take, drop};
 ghost use Rattle.fabric.specs.Plain.{HasMasks};
 ghost use Rattle.vsm_base.specs.Masks.{is_mask};
 ghost use Rattle.vsm_core.specs.Words.{memory_at};
 ghost use Rattle.vsm_report.specs.Acting.{ending_of, report_with, track_of};
-ghost use Rattle.vsm_run.specs.Rests.{AllStarted};
 ghost use Rattle.vsm_run.specs.Rooms.{HasRooms};
 
 use cpu::Cpu;
@@ -67,16 +66,17 @@ fn add_words(words: &[u64], memory: &mut Reserved<u64>)
 }
 
 fn ending_of(cpu: &Cpu) -> Ending
-    requires { cpu.now.started ≡ true }
     ensures { result ≡ ending_of cpu.now }
 {
+    if !cpu.started() {
+        return Ending::Unstarted;
+    }
     cpu.ended().unwrap_or(Ending::Cut)
 }
 
 // The last argument is there for its type: the check finds the enum that an ending holds only where the signature of
 // what moves an ending names it.
 fn add_ends(cpus: &[Cpu], ends: &mut Reserved<Ending>, _fault: &[GuestFault])
-    requires started { AllStarted cpus.now }
     requires room { length ends.old.0 + length cpus.now ≤ ends.old.1 }
     ensures { ends.new ≡ (ends.old.0 ++ map ending_of cpus.now, ends.old.1) }
 {
@@ -105,7 +105,6 @@ pub fn left(
     mut rooms: Rooms,
 ) -> Report
     requires limits { limits.now ≡ fabric.now.limits }
-    requires started { AllStarted cpus.items }
     requires rooms { HasRooms rooms (length cpus.items) limits.now }
     ensures { result ≡ report_with (record { words = fabric.now.fabric.words; partition = journal; vps = cpus.items; lines = lines.0 }) journal (take limits.now.pages fabric.now.fabric.words) (drop (memory_at limits.now) fabric.now.fabric.words) }
 {

@@ -38,6 +38,17 @@ program 0 1\nset Rcx 0x100000051\nset Rdx 0x2000\nhypercall\n\
 set Rcx 0x10000000c\nset Rdx 0x3000\nhypercall\n\
 schedule 0*15\nend\n";
 
+// Processor 0 starts processor 1, which is entered before and after that.
+const STARTS: &[u8] = b"vsm 1\nvps 2\npages 2\nbudget 10\nstarted 1\n\
+word 1 0 0xffffffffffffffff\nword 1 1 1\n\
+program 0 0\nset Rcx 0x99\nset Rdx 0x1000\nhypercall\nprogram 1 0\nset Rax 5\n\
+schedule 1 0*3 1*3\nend\n";
+
+// Nobody starts processor 1.
+const NEVER_STARTS: &[u8] = b"vsm 1\nvps 2\npages 1\nbudget 10\nstarted 1\n\
+program 0 0\nset Rax 5\nprogram 1 0\nset Rax 5\n\
+schedule 1 0 1\nend\n";
+
 fn run(alloc: Global, script: &[u8]) -> Result<Report, Fail> {
     let script = read(alloc, script).or(Err("no script"))?;
     let report = trace(alloc, &script).or(Err("no memory"))?;
@@ -218,5 +229,39 @@ fn protection_asks_for_each_page_and_then_for_one(rt: HostRuntime) -> Result<(),
     assert_eq!(rt; report.journal.as_slice(), entries.as_slice());
     let masks = [all, all, read, all];
     assert_eq!(rt; report.masks.as_slice(), masks.as_slice());
+    Ok(())
+}
+
+#[test]
+fn a_processor_starts_once_it_is_entered_after_the_call(rt: HostRuntime) -> Result<(), Fail> {
+    let report = run(rt.alloc(), STARTS)?;
+    let by = VpIndex(0);
+    let vp = VpIndex(1);
+    let level = Vtl::Zero;
+    let entries = [Entry::Start { by, vp, level }, Entry::Fetch { vp }];
+    assert_eq!(rt; report.journal.as_slice(), entries.as_slice());
+    let lines = [
+        Line::Mark(by, mark(0, What::Plain, 0, 0)),
+        Line::Mark(by, mark(1, What::Plain, 0, 0)),
+        Line::Entry(Entry::Start { by, vp, level }),
+        Line::Mark(by, mark(2, What::Reply(0), 0, 34)),
+        Line::Entry(Entry::Fetch { vp }),
+        Line::Mark(vp, mark(0, What::Started, 0, 1)),
+        Line::Mark(vp, mark(0, What::Plain, 1, 0)),
+    ];
+    assert_eq!(rt; report.lines.as_slice(), lines.as_slice());
+    let ends = [Ending::Done, Ending::Done];
+    assert_eq!(rt; report.ends.as_slice(), ends.as_slice());
+    Ok(())
+}
+
+#[test]
+fn a_processor_that_nobody_starts_does_nothing(rt: HostRuntime) -> Result<(), Fail> {
+    let report = run(rt.alloc(), NEVER_STARTS)?;
+    let lines = [Line::Mark(VpIndex(0), mark(0, What::Plain, 0, 0))];
+    assert_eq!(rt; report.lines.as_slice(), lines.as_slice());
+    assert_eq!(rt; report.tracks.as_slice()[1].seen.len(), 0);
+    let ends = [Ending::Done, Ending::Unstarted];
+    assert_eq!(rt; report.ends.as_slice(), ends.as_slice());
     Ok(())
 }

@@ -18,3 +18,6 @@ returns-in-Write-clause-is c = λ pages is. c.served-in-Write.ensures.is pages c
 
 pub returns-in-Look-clause-is : goal.returns-in-Look-clause-is
 returns-in-Look-clause-is c = λ pages is. c.put_value.ensures.is pages Status (rw (c.in-Want.is, c.in-Look.is) at is)
+
+pub returns-in-Start-clause-is : goal.returns-in-Start-clause-is
+returns-in-Start-clause-is c = λ pages is. c.served-in-Start.ensures.is pages c.args.vp.0

@@ -37,60 +37,60 @@ grown line lines new items e =
 
 pub offset_bounds-marks-stood : goal.offset_bounds-marks-stood
 offset_bounds-marks-stood c =
-    let h = few _ _ _ _ _ _ c.attempt_at.ensures.done.vp c.marks.ensures in let low = h.low in omega arith
+    let h = few _ _ _ _ _ _ c.make_at.ensures.done.vp c.marks.ensures in let low = h.low in omega arith
 
 pub slice_bounds-add_marks-count : goal.slice_bounds-add_marks-count
 slice_bounds-add_marks-count c =
-    let h = few _ _ _ _ _ _ c.attempt_at.ensures.done.vp c.marks.ensures in let low = h.low in omega arith
+    let h = few _ _ _ _ _ _ c.make_at.ensures.done.vp c.marks.ensures in let low = h.low in omega arith
 
 pub slice_bounds-add_marks-start : goal.slice_bounds-add_marks-start
 slice_bounds-add_marks-start c =
-    let h = few _ _ _ _ _ _ c.attempt_at.ensures.done.vp c.marks.ensures in let low = h.low in omega arith
+    let h = few _ _ _ _ _ _ c.make_at.ensures.done.vp c.marks.ensures in let low = h.low in omega arith
 
 pub returns-clause-place : goal.returns-clause-place
 returns-clause-place c =
     let program = c.args.program.now in
     let v = c.args.cpu.now in
     let limits = c.args.fabric.now.limits in
-    let e = c.attempt_at.ensures.done.vp in
-    subst (IsInPlace limits v.number) (sym e) (made_steps-place program v c.args.partition.now.state c.args.fabric.now.fabric.words limits v.number c.requires.place (subst IsAtRest e c.attempt_at.ensures.rests) (subst (λ (u : Vp). u.heard ≡ None) e c.attempt_at.ensures.unheard))
+    let e = c.make_at.ensures.done.vp in
+    subst (IsInPlace limits v.number) (sym e) (made_steps-place program v c.args.partition.now.state c.args.fabric.now.fabric.words limits v.number c.requires.place (subst IsAtRest e c.make_at.ensures.rests) (subst (λ (u : Vp). u.heard ≡ None) e c.make_at.ensures.unheard))
 
 pub returns-clause-fits : goal.returns-clause-fits
 returns-clause-fits c =
-    subst (FitsOne c.args.program.now) (sym c.attempt_at.ensures.done.vp) (made_steps-fits c.args.program.now c.args.cpu.now c.args.partition.now.state c.args.fabric.now.fabric.words c.requires.fits)
+    subst (FitsOne c.args.program.now) (sym c.make_at.ensures.done.vp) (made_steps-fits c.args.program.now c.args.cpu.now c.args.partition.now.state c.args.fabric.now.fabric.words c.requires.fits)
 
 pub returns-clause-free : goal.returns-clause-free
 returns-clause-free c =
-    still-free _ c.attempt_at.new.cpu c.attempt_at.new.fabric.fabric.words c.args.partition.now c.attempt_at.new.partition c.attempt_at.ensures.done c.args.fabric.now.limits c.requires.free
+    still-free _ c.make_at.new.cpu c.make_at.new.fabric.fabric.words c.args.partition.now c.make_at.new.partition c.make_at.ensures.done c.args.fabric.now.limits c.requires.free
 
 pub returns-clause-spends : goal.returns-clause-spends
 returns-clause-spends c =
-    entries-paid _ c.attempt_at.new.cpu c.attempt_at.new.fabric.fabric.words c.args.partition.now c.attempt_at.new.partition c.attempt_at.ensures.done (length c.args.partition.now.state.vps + 11) (standing c.args.cpu.now) (made_steps-pays c.args.program.now c.args.cpu.now c.args.partition.now.state c.args.fabric.now.fabric.words) c.attempt_at.ensures.few
+    entries-paid _ c.make_at.new.cpu c.make_at.new.fabric.fabric.words c.args.partition.now c.make_at.new.partition c.make_at.ensures.done (length c.args.partition.now.state.vps + 11) (standing c.args.cpu.now) (made_steps-pays c.args.program.now c.args.cpu.now c.args.partition.now.state c.args.fabric.now.fabric.words) c.make_at.ensures.few
 
 pub returns-clause-marks : goal.returns-clause-marks
 returns-clause-marks c =
     let v = c.args.cpu.now in
-    subst (λ (n : Vp). length (standing n) ≤ length (standing v) + 1) (sym c.attempt_at.ensures.done.vp) (made_steps-stands c.args.program.now v c.args.partition.now.state c.args.fabric.now.fabric.words)
+    subst (λ (n : Vp). length (standing n) ≤ length (standing v) + 1) (sym c.make_at.ensures.done.vp) (made_steps-stands c.args.program.now v c.args.partition.now.state c.args.fabric.now.fabric.words)
 
 pub add_entries-requires : goal.add_entries-requires
 add_entries-requires c =
-    let did = c.attempt_at.ensures.done in
+    let did = c.make_at.ensures.done in
     let vps = length c.args.partition.now.state.vps in
     let pays = made_steps-pays c.args.program.now c.args.cpu.now c.args.partition.now.state c.args.fabric.now.fabric.words in
-    let few_entries = entries-few _ c.attempt_at.new.cpu c.attempt_at.new.fabric.fabric.words c.args.partition.now c.attempt_at.new.partition did (vps + 11) (standing c.args.cpu.now) pays c.attempt_at.ensures.few in
-    let later = entries-later _ c.attempt_at.new.cpu c.attempt_at.new.fabric.fabric.words c.args.partition.now c.attempt_at.new.partition did in
-    let some = entries-more c.args.partition.now c.attempt_at.new.partition c.journal.result.now c.journal-2.result.now c.entries-before.result.now c.entries.result.now c.journal.ensures c.entries-before.ensures c.journal-2.ensures c.entries.ensures later in
+    let few_entries = entries-few _ c.make_at.new.cpu c.make_at.new.fabric.fabric.words c.args.partition.now c.make_at.new.partition did (vps + 11) (standing c.args.cpu.now) pays c.make_at.ensures.few in
+    let later = entries-later _ c.make_at.new.cpu c.make_at.new.fabric.fabric.words c.args.partition.now c.make_at.new.partition did in
+    let some = entries-more c.args.partition.now c.make_at.new.partition c.journal.result.now c.journal-2.result.now c.entries-before.result.now c.entries.result.now c.journal.ensures c.entries-before.ensures c.journal-2.ensures c.entries.ensures later in
     let room = c.requires.room in
     omega arith
 
 pub add_marks-requires : goal.add_marks-requires
 add_marks-requires c =
-    let did = c.attempt_at.ensures.done in
+    let did = c.make_at.ensures.done in
     let vps = length c.args.partition.now.state.vps in
     let pays = made_steps-pays c.args.program.now c.args.cpu.now c.args.partition.now.state c.args.fabric.now.fabric.words in
-    let few_entries = entries-few _ c.attempt_at.new.cpu c.attempt_at.new.fabric.fabric.words c.args.partition.now c.attempt_at.new.partition did (vps + 11) (standing c.args.cpu.now) pays c.attempt_at.ensures.few in
-    let later = entries-later _ c.attempt_at.new.cpu c.attempt_at.new.fabric.fabric.words c.args.partition.now c.attempt_at.new.partition did in
-    let some = entries-more c.args.partition.now c.attempt_at.new.partition c.journal.result.now c.journal-2.result.now c.entries-before.result.now c.entries.result.now c.journal.ensures c.entries-before.ensures c.journal-2.ensures c.entries.ensures later in
+    let few_entries = entries-few _ c.make_at.new.cpu c.make_at.new.fabric.fabric.words c.args.partition.now c.make_at.new.partition did (vps + 11) (standing c.args.cpu.now) pays c.make_at.ensures.few in
+    let later = entries-later _ c.make_at.new.cpu c.make_at.new.fabric.fabric.words c.args.partition.now c.make_at.new.partition did in
+    let some = entries-more c.args.partition.now c.make_at.new.partition c.journal.result.now c.journal-2.result.now c.entries-before.result.now c.entries.result.now c.journal.ensures c.entries-before.ensures c.journal-2.ensures c.entries.ensures later in
     let more = grown entry_line c.args.lines.now c.add_entries.new.lines _ c.add_entries.ensures in
     let lines = more.0 in
     let same = more.1 in
@@ -102,12 +102,12 @@ add_marks-requires c =
 
 pub returns-clause-grows : goal.returns-clause-grows
 returns-clause-grows c =
-    let did = c.attempt_at.ensures.done in
+    let did = c.make_at.ensures.done in
     let vps = length c.args.partition.now.state.vps in
     let pays = made_steps-pays c.args.program.now c.args.cpu.now c.args.partition.now.state c.args.fabric.now.fabric.words in
-    let few_entries = entries-few _ c.attempt_at.new.cpu c.attempt_at.new.fabric.fabric.words c.args.partition.now c.attempt_at.new.partition did (vps + 11) (standing c.args.cpu.now) pays c.attempt_at.ensures.few in
-    let later = entries-later _ c.attempt_at.new.cpu c.attempt_at.new.fabric.fabric.words c.args.partition.now c.attempt_at.new.partition did in
-    let some = entries-more c.args.partition.now c.attempt_at.new.partition c.journal.result.now c.journal-2.result.now c.entries-before.result.now c.entries.result.now c.journal.ensures c.entries-before.ensures c.journal-2.ensures c.entries.ensures later in
+    let few_entries = entries-few _ c.make_at.new.cpu c.make_at.new.fabric.fabric.words c.args.partition.now c.make_at.new.partition did (vps + 11) (standing c.args.cpu.now) pays c.make_at.ensures.few in
+    let later = entries-later _ c.make_at.new.cpu c.make_at.new.fabric.fabric.words c.args.partition.now c.make_at.new.partition did in
+    let some = entries-more c.args.partition.now c.make_at.new.partition c.journal.result.now c.journal-2.result.now c.entries-before.result.now c.entries.result.now c.journal.ensures c.entries-before.ensures c.journal-2.ensures c.entries.ensures later in
     let more = grown entry_line c.args.lines.now c.add_entries.new.lines _ c.add_entries.ensures in
     let lines = more.0 in
     let h = few _ _ _ _ _ _ did.vp c.marks.ensures in

@@ -1,6 +1,6 @@
-use Rattle.std.proofs.Common.{◌≡◌, ◌+◌, ℕ, List, length, refl, sym, ap, subst, ◌∙◌}
+use Rattle.std.proofs.Common.{◌≡◌, ◌+◌, ℕ, true, List, length, refl, sym, ap, subst, ◌∙◌}
 use Rattle.vsm_core.specs.Entries.{words_by_entries}
-use Rattle.vsm_core.specs.Processor.{Did, operation_at}
+use Rattle.vsm_core.specs.Processor.{Vp, Did, operation_at}
 use Rattle.vsm_core.specs.Protection.{IsSlice}
 use Rattle.vsm_core.specs.Served.{block}
 use Rattle.vsm_core.specs.State.{State}
@@ -40,6 +40,9 @@ turns-preserved-in-Moved c =
       on = still-on op start words before limits v fabric now on n turned moves c.in-Moved.ensures.owes (record { own = c.turn_at.ensures.phase; others = c.turn_at.ensures.others }) agrees parts;
       limits = c.turn_at.ensures.limits ∙ c.turns.invariant.limits;
     }
+
+pub turn_at-requires-clause-started : goal.turn_at-requires-clause-started
+turn_at-requires-clause-started c = c.turns.invariant.on.same.started c.requires.started
 
 pub serve-reply-requires-clause-free : goal.serve-reply-requires-clause-free
 serve-reply-requires-clause-free c =
@@ -178,6 +181,7 @@ turns-preserved c =
     let q = c.in-Wants.request in
     let hands : Hands q op v n fabric.words turned.words = subst (λ turn. Leads turn limits start.number op v n fabric.words turned.words) c.in-Wants.is leads in
     let slice : IsSlice q.call = subst HandsSlice c.in-Wants.is c.turn_at.ensures.slices in
+    let now_started : n.started ≡ true = ap (λ (u : Vp). u.started) hands.asks ∙ on.same.started c.requires.started in
     let m = c.accept.new.self in
     let part = c.serve-reply.new.partition in
     let next = c.serve-reply.new.fabric.fabric in
@@ -189,7 +193,7 @@ turns-preserved c =
     let stays : next.phases ≡ turned.phases = c.serve-reply.ensures.phases in
     let phases : Phases v.number m fabric.phases next.phases = rw stays (record { own = c.turn_at.ensures.phase ∙ sym c.accept.ensures.phase; others = c.turn_at.ensures.others }) in
     record {
-      on = heard-on op start words before limits v fabric now on q n turned.words hands c.serve-reply.result m c.accept.result part c.serve-reply.ensures.reply slice c.serve-reply.ensures.served c.accept.ensures.accepted next c.in-Moved-accept.is c.accept.ensures.left c.turn_at.ensures.first words_next phases agrees_next paced_next;
+      on = heard-on op start words before limits v fabric now on q n turned.words hands c.serve-reply.result m c.accept.result part c.serve-reply.ensures.reply slice c.serve-reply.ensures.served (c.accept.ensures.accepted now_started) next c.in-Moved-accept.is (c.accept.ensures.left now_started) c.turn_at.ensures.first words_next phases agrees_next paced_next;
       limits = lims_next;
     }
 
@@ -215,6 +219,7 @@ returns-in_default-accept c =
     let q = c.in-Wants.request in
     let hands : Hands q op v n fabric.words turned.words = subst (λ turn. Leads turn limits start.number op v n fabric.words turned.words) c.in-Wants.is leads in
     let slice : IsSlice q.call = subst HandsSlice c.in-Wants.is c.turn_at.ensures.slices in
+    let now_started : n.started ≡ true = ap (λ (u : Vp). u.started) hands.asks ∙ on.same.started c.requires.started in
     let m = c.accept.new.self in
     let part = c.serve-reply.new.partition in
     let next = c.serve-reply.new.fabric.fabric in
@@ -227,8 +232,8 @@ returns-in_default-accept c =
     let phases : Phases v.number m fabric.phases next.phases = rw stays (record { own = c.turn_at.ensures.phase ∙ sym c.accept.ensures.phase; others = c.turn_at.ensures.others }) in
     let place = c.requires.place in
     let finished : IsFinished limits (does_rest limits start.number op before.state start words) m next before part =
-    heard-finished op start words before limits v fabric now on q n turned.words hands c.serve-reply.result m c.accept.result part c.serve-reply.ensures.reply slice c.serve-reply.ensures.served c.accept.ensures.accepted next c.in_default-accept.not-Moved words_next phases agrees_next paced_next in
-    let made = made-rest program limits start before.state words place.rests place.unheard place.limits_same in
+    heard-finished op start words before limits v fabric now on q n turned.words hands c.serve-reply.result m c.accept.result part c.serve-reply.ensures.reply slice c.serve-reply.ensures.served (c.accept.ensures.accepted now_started) next c.in_default-accept.not-Moved words_next phases agrees_next paced_next in
+    let made = made-rest program limits start before.state words c.requires.started place.rests place.unheard place.limits_same in
     record {
       done = subst (λ (d : Did (List ℕ)). IsDone d m next.words before part) (sym made) finished.done;
       few = subst (λ (d : Did (List ℕ)). AddsFew (length before.state.vps + 11) d before part) (sym made) finished.few;
@@ -263,7 +268,7 @@ returns-in_default c =
     let stops = ends-turn c.turn_at.result limits start.number op v n fabric.words turned.words c.in_default.not-Moved c.in_default.not-Wants leads in
     let finished : IsFinished limits (does_rest limits start.number op before.state start words) n turned before now =
     stops-finished op start words before limits v fabric now on n turned stops (record { own = c.turn_at.ensures.phase; others = c.turn_at.ensures.others }) agrees parts in
-    let made = made-rest program limits start before.state words place.rests place.unheard place.limits_same in
+    let made = made-rest program limits start before.state words c.requires.started place.rests place.unheard place.limits_same in
     record {
       done = subst (λ (d : Did (List ℕ)). IsDone d n turned.words before now) (sym made) finished.done;
       few = subst (λ (d : Did (List ℕ)). AddsFew (length before.state.vps + 11) d before now) (sym made) finished.few;

@@ -19,7 +19,7 @@ invariant_of-result c =
     let part = c.in_ok-partition.ensures in
     let limits : c.in_ok-fabric.fabric.limits ≡ s.limits = ap (λ (f : Plain). f.limits) first in
     let many : length (opening_view s.limits c.in_ok-masks.masks.items s.started).state.vps ≡ s.limits.vps = length-map-range_with_len (opening_standing s.started) 0 s.limits.vps in
-    let each : AllInPlace s.limits (opening_vps s) = opening-in-place s c.requires.programs c.requires.started c.requires.budget_some in
+    let each : AllInPlace s.limits (opening_vps s) = opening-in-place s c.requires.programs c.requires.budget_some in
     record {
       idle = subst (λ (f : Plain). AllIdle f.fabric.phases) (sym first) (all_idle s.limits.vps);
       each = rw (limits, c.in_ok-cpus.ensures) each;

@@ -1,4 +1,5 @@
 use Rattle.std.proofs.Common.{arith, rules, ◌≡◌, Some, None, true, false, refl, sym, ap, ◌∙◌}
+use Rattle.vsm_base.specs.declared.places.Limits.{Limits}
 use Rattle.vsm_core.specs.Outcomes.{Origin}
 use Rattle.vsm_core.specs.Processor.{Vp, operation_at}
 use Rattle.vsm_core.specs.Seat.{Seat}
@@ -6,6 +7,7 @@ use Rattle.cpu.specs.Sound.{view_of}
 use Rattle.cpu.specs.Stages.{IsUnderWay, IsWant, StageSteps}
 use Rattle.cpu.specs.Turns.{phase_at}
 use Rattle.cpu.specs.Inputs.{AskedIs}
+use Rattle.cpu.proofs.Lending.{IsOwnPort, stage-serves}
 use Rattle.cpu.proofs.PageSlices.{asked-slice}
 use Rattle.cpu.proofs.Replies.{unheard, want-rest}
 use Rattle.cpu.proofs.Rests.{going-ends}
@@ -77,13 +79,6 @@ invariant_of-self-then-not-is_going g c =
       means = way;
     })
 
-pub step-step-requires : goal.step-step-requires
-step-step-requires g c =
-    let i = c.self.inside in
-    let u = c.begun-under.result in
-    let way : IsUnderWay (origin_at i.limits i.vp.0 i.bank i.levels i.controllers) u i.heard i.log.seen.0 i.log.part i.log.first = c.begun-under.ensures.means i.heard i.log.seen.0 i.log.part i.log.first (known i c.self.invariant (rw (← c.self.view_is) at c.requires.started)) in
-    search rules
-
 pub returns-then-not-is_going-clause-turned : goal.returns-then-not-is_going-clause-turned
 returns-then-not-is_going-clause-turned g c =
     let i = c.self.inside in
@@ -97,8 +92,21 @@ returns-then-not-is_going-clause-turned g c =
     (λ grant. again-kept (origin_at i.limits i.vp.0 i.bank i.levels i.controllers) i.under u i.heard i.log.seen.0 i.log.part i.log.first ends.0 grant (known i c.self.invariant (rw (← c.self.view_is) at c.requires.started)) c.begun-under.ensures.kept ends.1)
     c.settle.ensures.new c.settle.ensures.turn)
 
-pub judged-stage-requires : goal.judged-stage-requires
-judged-stage-requires g c =
+pub step-step-requires : goal.step-step-requires
+step-step-requires g c =
+    let i = c.self.inside in
+    let u = c.begun-under.result in
+    let from : Origin = origin_at i.limits i.vp.0 i.bank i.levels i.controllers in
+    let old = g.P.Port.seat c.args.port.now in
+    let limits : old.limits ≡ i.limits = rw (← c.self.view_is) at c.requires.serves.limits in
+    let number : old.vp ≡ i.vp.0 = rw (← c.self.view_is) at c.requires.serves.vp in
+    let phase : old.phase ≡ phase_at i.log.seen.0 i.log.first = rw (← c.self.view_is) at c.requires.serves.phase in
+    let way = c.begun-under.ensures.means i.heard i.log.seen.0 i.log.part i.log.first (known i c.self.invariant (rw (← c.self.view_is) at c.requires.started)) in
+    let own : IsOwnPort from old = record { pages = ap (λ (z : Limits). z.pages) limits; vps = ap (λ (z : Limits). z.vps) limits; number = number; below = rw (limits, number) c.self.invariant.vp } in
+    stage-serves from u.op u.stage _ old own way.is way.rest (rw phase way.phase) (sym c.is_going.ensures ∙ c.if-not-is_going.false)
+
+pub judged-stage-requires-clause-may : goal.judged-stage-requires-clause-may
+judged-stage-requires-clause-may g c =
     let i = c.self.inside in
     let steps : StageSteps c.begun-under.result.stage (g.P.Port.seat c.args.port.now) (g.P.Port.seat c.step-step.new.port) c.step-step.result = c.step-step.ensures in
     steps.is i.limits.pages i.vp.0 (c.begun-under.ensures.means i.heard i.log.seen.0 i.log.part i.log.first (known i c.self.invariant (rw (← c.self.view_is) at c.requires.started))).is
@@ -118,6 +126,7 @@ invariant_of-self-2 g c =
     let started : i.started ≡ true = rw (← c.self.view_is) at c.requires.started in
     rw (c.see.ensures, c.stand.ensures) (record {
       vp = w.vp;
+      vps = w.vps;
       budget = w.budget;
       marks_room = w.marks_room;
       seen_room = w.seen_room;

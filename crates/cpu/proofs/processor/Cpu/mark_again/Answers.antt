@@ -28,6 +28,7 @@ invariant_of-self-in-None c =
     let more = length-append i.log.marks.0 (mark ∷ []) in
     rw c.mark_again.ensures (record {
       vp = v.vp;
+      vps = v.vps;
       budget = v.budget;
       marks_room = v.marks_room;
       seen_room = v.seen_room;
@@ -44,5 +45,5 @@ invariant_of-self-in-None c =
       owing = λ e. let answered : i.owes ≡ false = rw (← c.self.view_is) at c.requires.answered in let no : true ≡ false = sym e ∙ answered in cc;
       waits = λ e. let none : op_of None ≡ Some c.args.op = rw (v.waits e) at op in cc;
       waiting = λ e. let none : op_of None ≡ Some c.args.op = rw (v.waits e) at op in cc;
-      means = begun-under from _ i.heard i.log.seen.0 i.log.part _ quiet refl (tidy-begun i.log.part _ from c.args.op c.begin-stage.result _ c.begin-stage.ensures.is c.begin-stage.ensures.rest c.begin-stage.ensures.idle (c.begin-stage.ensures.no_poll c.requires.spins c.requires.no_call) asks) c.begin-stage.ensures.is c.begin-stage.ensures.rest c.begin-stage.ensures.idle;
+      means = begun-under from _ i.heard i.log.seen.0 i.log.part _ v.vps quiet refl (tidy-begun i.log.part _ from c.args.op c.begin-stage.result _ c.begin-stage.ensures.is c.begin-stage.ensures.rest c.begin-stage.ensures.idle (c.begin-stage.ensures.no_poll c.requires.spins c.requires.no_call) asks) c.begin-stage.ensures.is c.begin-stage.ensures.rest c.begin-stage.ensures.idle;
     })

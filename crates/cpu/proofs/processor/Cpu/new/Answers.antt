@@ -6,6 +6,7 @@ use Rattle.cpu.proofs.processor.Cpu.new.Goals as goal
 pub invariant_of-result : goal.invariant_of-result
 invariant_of-result c = record {
   vp = c.requires.vp;
+  vps = c.requires.vps_few;
   budget = c.requires.budget_few;
   marks_room = search rules;
   seen_room = search rules;

@@ -23,6 +23,7 @@ invariant_of-self c =
     let stage = c.replied_stage-stage in
     record {
       vp = v.vp;
+      vps = v.vps;
       budget = v.budget;
       marks_room = v.marks_room;
       seen_room = v.seen_room;

@@ -28,7 +28,7 @@ returns-then-is_some-clause-acts c =
     let now = world_of c.self.inside.fabric.fabric.words (kept_of c.self.inside.partition) vps c.self.inside.lines.0 in
     let ended : is_some v.ended ≡ true = sym (ap is_some c.ended.ensures) ∙ sym c.is_some.ensures ∙ c.if-is_some.true in
     ap (λ us. world_of now.words now.partition us now.lines) (set_back vps p v c.in-Some.ensures.value)
-    ∙ sym (stepped-ended c.args.programs.now p now v found (c.self.invariant.each p v found).started ended)
+    ∙ sym (stepped-ended c.args.programs.now p now v found ended)
     ∙ ap (λ (r : Running). stepped c.args.programs.now p r.world) c.self.view_is
 
 pub act_at-requires-clause-place : goal.act_at-requires-clause-place
@@ -88,7 +88,7 @@ returns-clause-acts c =
     let place = c.self.invariant.each p v found in
     let going : is_some v.ended ≡ false = sym (ap is_some c.ended.ensures) ∙ sym c.is_some.ensures ∙ c.if-is_some.false in
     let did = c.act_at.ensures in
-    stepped-running c.args.programs.now p program now v c.act_at.new.cpu c.self.inside.partition c.act_at.new.partition c.act_at.new.fabric.fabric.words c.act_at.new.lines.0 (program_of c.args.programs.now vps p program fits c.in-Some.ensures.item.3.0 c.index-programs-p.is) found place.started place.number going refl did.done (ap (λ r. r.0) did.lines)
+    stepped-running c.args.programs.now p program now v c.act_at.new.cpu c.self.inside.partition c.act_at.new.partition c.act_at.new.fabric.fabric.words c.act_at.new.lines.0 (program_of c.args.programs.now vps p program fits c.in-Some.ensures.item.3.0 c.index-programs-p.is) found place.number going refl did.done (ap (λ r. r.0) did.lines)
     ∙ ap (λ (r : Running). stepped c.args.programs.now p r.world) c.self.view_is
 
 pub returns-clause-fits : goal.returns-clause-fits
