@@ -63,3 +63,7 @@ polls-unwanted false told o p reason e = (p.does, refl)
 pub may-is : (pages number : ℕ) (stage : Stage) → ((case : Case) → stage ≢ Judge case) → StageMay pages number stage → StageIs pages number stage
 may-is pages number (Judge case) undecided may = absurd (undecided case refl)
 may-is pages number _ undecided may = may
+
+pub is-may : (pages number : ℕ) (stage : Stage) → StageIs pages number stage → StageMay pages number stage
+is-may pages number (Judge case) is = absurd is
+is-may pages number _ is = is

@@ -9,6 +9,7 @@ pub mod Planned
 pub mod Polls
 pub mod ContextGiven
 pub mod Judged
+pub mod Lending
 pub mod Looked
 pub mod NoStarts
 pub mod Marking

@@ -1,5 +1,5 @@
 -- The posts of a call that requests an interrupt.
-use Rattle.std.proofs.Common.{◌≡◌, ◌+◌, ◌-◌, ◌<◌, ◌≤◌, ℕ, suc, true, false, None, List, [], ◌∷◌, take, refl, ◌∙◌, arith}
+use Rattle.std.proofs.Common.{◌≡◌, ◌+◌, ◌-◌, ◌<◌, ◌≤◌, ℕ, suc, true, false, None, List, [], ◌∷◌, take, refl, ◌∙◌, arith, lit<}
 use Rattle.std.specs.List.{range_with_len}
 use Rattle.std.specs.Prelude.{◌^◌, filter}
 use Rattle.std.proofs.Math.Nat.{pow-le-pow_right}
@@ -31,7 +31,7 @@ those-none bits p past high = let none : past - p ≡ 0 = omega arith in rw none
 
 -- the bits of so many processors are those of eight
 pub few-bits : (n vps : ℕ) → vps ≤ 8 → n < 2 ^ vps → n < 2 ^ 8
-few-bits n vps few low = omega (arith, low, pow-le-pow_right 2 vps 8)
+few-bits n vps few low = omega (arith, low, pow-le-pow_right {n = 2} (lit< tt) few)
 
 -- all posts of a call that nothing refuses
 pub all-sent : (from : Origin) (i : Interrupt) (header : List ℕ) (vps : ℕ) → i.level ≡ interrupted_level from.state.active header → i.vector ≡ vector_in header → i.processors ≡ processors_in header → vps ≡ from.vps → interrupts_by from header None ≡ sends_from from i 0 vps
@@ -41,4 +41,4 @@ all-sent from i header vps level vector processors same =
 
 -- what is left of such a call once its input was read
 pub send-rest : (from : Origin) (i : Input) (tree : Tree Outcome) → i.call ≡ SendSyntheticClusterIpi → i.done ≡ words_of i → ReadRest from i tree → tree ≡ Asks Leaving (λ _. interrupts from (take 2 i.words))
-send-rest from i tree call all rest = rest.rest ∙ read-two from i SendSyntheticClusterIpi 0 call refl all refl
+send-rest from i tree call all rest = rest.rest ∙ read-two from i SendSyntheticClusterIpi 0 call refl all (omega arith)

@@ -1,4 +1,6 @@
 // The call that requests an interrupt of processors.
+ghost use Rattle.std.specs.Prelude.{◌≤◌};
+
 use super::*;
 use vsm_base::{HvStatus, Vtl};
 
@@ -54,23 +56,25 @@ fn a_vector_is_from_16_to_255(rt: HostRuntime) {
     }
 }
 
+/// What a caller is answered that names processors by these bits, among so many.
+fn among(vps: u8, bits: u64) -> Option<HvStatus>
+    requires { vps ≤ 8 }
+{
+    interrupt_refusal(vps, Vtl::Zero, &[0x40, bits])
+}
+
 #[test]
 fn each_processor_that_is_named_is_one_that_there_is(rt: HostRuntime) {
-    for (vps, bits, status) in [
-        (1, 0, None),
-        (1, 1, None),
-        (1, 2, BAD),
-        (4, 0x0F, None),
-        (4, 0x10, BAD),
-        (4, 0x1F, BAD),
-        (8, 0xFF, None),
-        (8, 0x100, BAD),
-        (8, 1 << 63, BAD),
-        (8, u64::MAX, BAD),
-    ] {
-        let refusal = interrupt_refusal(vps, Vtl::Zero, &[0x40, bits]);
-        assert_eq!(rt; refusal, status, "{vps} {bits}");
-    }
+    assert_eq!(rt; among(1, 0), None);
+    assert_eq!(rt; among(1, 1), None);
+    assert_eq!(rt; among(1, 2), BAD);
+    assert_eq!(rt; among(4, 0x0F), None);
+    assert_eq!(rt; among(4, 0x10), BAD);
+    assert_eq!(rt; among(4, 0x1F), BAD);
+    assert_eq!(rt; among(8, 0xFF), None);
+    assert_eq!(rt; among(8, 0x100), BAD);
+    assert_eq!(rt; among(8, 1 << 63), BAD);
+    assert_eq!(rt; among(8, u64::MAX), BAD);
 }
 
 #[test]
@@ -90,7 +94,7 @@ fn the_byte_is_looked_at_before_the_level_and_that_before_the_vector(rt: HostRun
 
 #[test]
 fn an_interrupt_has_its_fields(rt: HostRuntime) {
-    let interrupt = interrupt_of(Vtl::One, &[byte(0x10, 0x10), 0x81]);
+    let interrupt = interrupt_of(Vtl::One, &[0x10_0000_0010, 0x81]);
     let read = Interrupt {
         level: Vtl::Zero,
         vector: 0x10,

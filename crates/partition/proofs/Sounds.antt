@@ -1,5 +1,5 @@
 -- A partition stays sound.
-use Rattle.std.proofs.Common.{◌≡◌, ℕ, zero, suc, ◌+◌, ◌-◌, ◌<◌, ◌≤◌, ◌^◌, Option, Some, None, List, [], ◌∷◌, length, refl, sym, ◌∙◌, arith, subst}
+use Rattle.std.proofs.Common.{◌≡◌, ℕ, zero, suc, ◌+◌, ◌-◌, ◌<◌, ◌≤◌, ◌^◌, Bool, Option, Some, None, List, [], ◌∷◌, length, refl, sym, ◌∙◌, arith, subst}
 use Rattle.vsm_base.specs.declared.places.Page.{Page}
 use Rattle.vsm_base.specs.declared.places.VpIndex.{VpIndex}
 use Rattle.vsm_core.specs.Served.{Service}
@@ -42,8 +42,8 @@ rest-long n pages k k1 q by (Some e) (Some r) i = (omega arith, omega (arith, i.
 rest-long n pages k k1 q by None (Some r) i = (fresh-long q by n pages r i.0, omega (arith, i.1))
 rest-long n pages k k1 q by None None i = elim i [ ]
 
-sound-begun : (s s1 : PartitionState) (j : JournalView) (u : Under) (o : Service) → IsSound s j None → Plans s s1 u o → length j.entries + length o.block ≤ j.room → IsSound s1 j (Some u)
-sound-begun s s1 j u o h p room =
+sound-begun : (s s1 : PartitionState) (j : JournalView) (u : Under) (ended : List Bool) (o : Service) → IsSound s j None ended → Plans s s1 u o → length j.entries + length o.block ≤ j.room → IsSound s1 j (Some u) ended
+sound-begun s s1 j u ended o h p room =
     let w = rest-long _ _ _ _ s1.rounds u.by u.first u.round p.fresh in
     record {
       few = omega (arith, p.vps, h.few);
@@ -52,6 +52,7 @@ sound-begun s s1 j u o h p room =
       rounds = omega (arith, w.0, w.1, h.rounds);
       room = rw p.block room;
       small = h.small;
+      told = h.told ∙ sym p.vps;
     }
 
 free-inside : (k : ℕ) (u : Option Under) → doing k u ≡ None → u ≡ None
@@ -59,10 +60,10 @@ free-inside k None e = refl
 free-inside k (Some u) e = cc
 
 -- a request that was begun leaves a sound partition
-pub sound-begins : (s s1 : PartitionState) (j : JournalView) (u0 : Option Under) (u : Under) (o : Service) → doing s.rounds u0 ≡ None → IsSound s j u0 → Plans s s1 u o → length j.entries + length o.block ≤ j.room → IsSound s1 j (Some u)
-sound-begins s s1 j u0 u o e h p room =
-    let h0 : IsSound s j None = rw (free-inside _ u0 e) at h in
-    sound-begun s s1 j u o h0 p room
+pub sound-begins : (s s1 : PartitionState) (j : JournalView) (u0 : Option Under) (u : Under) (ended : List Bool) (o : Service) → doing s.rounds u0 ≡ None → IsSound s j u0 ended → Plans s s1 u o → length j.entries + length o.block ≤ j.room → IsSound s1 j (Some u) ended
+sound-begins s s1 j u0 u ended o e h p room =
+    let h0 : IsSound s j None ended = rw (free-inside _ u0 e) at h in
+    sound-begun s s1 j u ended o h0 p room
 
 single-within : (n pages : ℕ) (e : Entry) → IsSingle n e → IsWithin pages e
 single-within n pages (entries.Enable by) i = tt
@@ -101,7 +102,7 @@ rest-within vps pages k turns cleared by None (Some r) e rest f p = round-within
 rest-within vps pages k turns cleared by None None e rest f p = elim f [ ]
 
 -- the steward stands where the journal does
-pub fits-stand : (s : PartitionState) (j : JournalView) (u : Under) (stand : Stand) (v : PartView) → s ≡ v.state → j ≡ v.journal → IsPaced v stand → IsSound s j (Some u) → UnderFits s.rounds stand u
-fits-stand s j u stand v a b h f =
+pub fits-stand : (s : PartitionState) (j : JournalView) (u : Under) (stand : Stand) (v : PartView) (ended : List Bool) → s ≡ v.state → j ≡ v.journal → IsPaced v stand → IsSound s j (Some u) ended → UnderFits s.rounds stand u
+fits-stand s j u stand v ended a b h f =
     let p : IsPaced (record { state = s; journal = j; under = v.under; ended = v.ended }) stand = rw (a, b) h in
     rw (p.vps, p.pages ∙ f.pages, p.turns, p.cleared) f.fits

@@ -1,10 +1,10 @@
 // The partition, between two requests and while it serves one.
 ghost use Rattle.std.specs.Option.{is_none};
 ghost use Rattle.std.specs.List.{range_with_len};
-ghost use Rattle.std.specs.Prelude.{◌≡◌, ◌≢◌, ◌+◌, ◌<◌, ◌≤◌, None, length, map, IfOk};
+ghost use Rattle.std.specs.Prelude.{◌≡◌, ◌≢◌, ◌+◌, ◌<◌, ◌≤◌, true, None, length, map, IfOk};
 ghost use Rattle.vsm_core.specs.Partition.{opening_partition};
 ghost use Rattle.vsm_core.specs.Served.{block};
-ghost use Rattle.partition.specs.PartView.{begun, opening_view, not_ended, running_of, with_ended};
+ghost use Rattle.partition.specs.PartView.{begun, has_ended, opening_view, not_ended, running_of, with_ended};
 ghost use Rattle.vsm_core.specs.Protection.{IsSlice};
 ghost use Rattle.partition.specs.Turns.{Turns, IsKept, IsPaced};
 
@@ -37,7 +37,7 @@ impl Model for Partition {
 
     ghost view = { λ p. record { state = p.state; journal = p.journal; under = doing p.state.rounds p.under; ended = p.ended } };
 
-    ghost invariant = { λ p. IsSound p.state p.journal p.under };
+    ghost invariant = { λ p. IsSound p.state p.journal p.under p.ended };
 }
 
 /// What the partition knows before the first request.
@@ -135,7 +135,8 @@ impl Partition {
     /// From now on a processor counts as ended, where there is one of this number: `running` doesn't count it. A second
     /// call changes nothing. That it is told is this project's own.
     pub fn ended(&mut self, vp: VpIndex)
-        ensures { self.new ≡ with_ended self.old vp.0 }
+        ensures view { self.new ≡ with_ended self.old vp.0 }
+        ensures ended { vp.0 < length self.old.state.vps → has_ended self.new.ended vp.0 ≡ true }
     {
         end(&mut self.ended, vp);
     }

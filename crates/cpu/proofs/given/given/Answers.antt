@@ -20,3 +20,6 @@ pub returns-in-SendSyntheticClusterIpi-clause-rest : goal.returns-in-SendSynthet
 returns-in-SendSyntheticClusterIpi-clause-rest c = λ op tree rest.
     let from : Origin = origin_at c.args.limits c.args.vp.0 c.args.bank.now c.args.levels.now c.args.controllers.now in
     rw (send-rest from c.args.input tree c.in-SendSyntheticClusterIpi.is c.requires.input.all rest, ← c.pair_of.ensures) (c.interrupting_inside.ensures.rest from op refl (sym rest.of.level))
+
+pub returns-in-SendSyntheticClusterIpi-clause-is : goal.returns-in-SendSyntheticClusterIpi-clause-is
+returns-in-SendSyntheticClusterIpi-clause-is c = c.interrupting_inside.ensures.is c.args.limits.pages c.args.vp.0

@@ -10,7 +10,7 @@ returns-in-Some c = λ from op vps level.
     rw e (c.ended.ensures from op)
 
 pub interrupt_of-requires-clause-processors : goal.interrupt_of-requires-clause-processors
-interrupt_of-requires-clause-processors c = few-bits _ c.args.vps c.requires (c.in-None.ensures.processors refl)
+interrupt_of-requires-clause-processors c = few-bits _ c.args.vps c.requires.few (c.in-None.ensures.processors refl)
 
 pub returns-in-None : goal.returns-in-None
 returns-in-None c = λ from op vps level.

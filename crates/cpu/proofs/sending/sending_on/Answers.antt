@@ -3,7 +3,7 @@ use Rattle.cpu.proofs.sending.sending_on.Goals as goal
 
 pub returns-in-Some : goal.returns-in-Some
 returns-in-Some c = λ from op vps. record {
-  is = record { next = c.in-Some.ensures.below; past = vps; few = c.requires };
+  is = record { next = c.in-Some.ensures.below; past = vps; few = c.requires.few };
   rest = rw c.in-Some.ensures.next refl;
 }
 

@@ -13,4 +13,4 @@ invariant_of-self c =
     let R : PartView → Type 0 = λ v. length v.journal.entries + length (block v.state c.args.request) ≤ v.journal.room in
     let r = subst R (sym c.self.view_is) c.requires.room in
     let p : Plans c.self.inside.state c.plan-under.new.state c.plan-under.result (serve c.self.inside.state c.args.request) = search rules in
-    sound-begins _ _ _ _ _ _ (ap (λ (v : PartView). v.under) c.self.view_is ∙ c.requires.free) c.self.invariant p r
+    sound-begins _ _ _ _ _ _ _ (ap (λ (v : PartView). v.under) c.self.view_is ∙ c.requires.free) c.self.invariant p r
