@@ -1,12 +1,11 @@
 -- A start, turn by turn, to its end.
-use Rattle.std.proofs.Common.{◌≡◌, ◌≢◌, ◌≤◌, ◌+◌, ◌*◌, ◌==◌, ◌⊎◌, inl, inr, eqb, ℕ, Bool, true, false, cond, None, List, [], ◌∷◌, ◌++◌, drop, get_or, map, length, reverse, slice_set, refl, sym, ap, subst, ◌∙◌, append-nil, arith}
+use Rattle.std.proofs.Common.{◌≡◌, ◌≢◌, ◌+◌, ◌==◌, ◌⊎◌, inl, inr, eqb, ℕ, Bool, true, false, cond, None, List, [], ◌∷◌, ◌++◌, drop, get_or, map, length, slice_set, refl, sym, ap, subst, ◌∙◌, append-nil, arith}
 use Rattle.std.proofs.Math.Seq.{drop-append_seam}
 use Rattle.std.proofs.lemmas.Bool.Decides.{eqb_tells}
 use Rattle.std.proofs.lemmas.List.{set-get_or}
 use Rattle.vsm_base.specs.declared.places.Limits.{Limits}
 use Rattle.vsm_core.specs.declared.event.Event.{Event}
 use Rattle.vsm_core.specs.declared.event.PendingWord.TheVariants.{Start}
-use Rattle.vsm_core.specs.declared.event.Phase.{Phase}
 use Rattle.vsm_core.specs.declared.event.Phase.TheVariants.{Idle}
 use Rattle.vsm_core.specs.declared.operation.Program.{Program}
 use Rattle.vsm_core.specs.declared.partition_state.PartitionState.{PartitionState}
@@ -15,29 +14,27 @@ use Rattle.vsm_core.specs.declared.request.Reply.{Reply}
 use Rattle.vsm_core.specs.declared.request.Request.{Request}
 use Rattle.vsm_core.specs.Entries.{words_by_entries}
 use Rattle.vsm_core.specs.Hypercalls.{asked_of}
-use Rattle.vsm_core.specs.Outcomes.{Outcome}
 use Rattle.vsm_core.specs.Processor.{Vp, Did, answered, answers_of, asking, does_all, origin_of, saw, settled, start_rest}
 use Rattle.vsm_core.specs.Protection.{owed}
 use Rattle.vsm_core.specs.Seat.{Seat, Fabric}
-use Rattle.vsm_core.specs.Served.{after, answer, block, joined}
+use Rattle.vsm_core.specs.Served.{after, answer, block}
 use Rattle.vsm_core.specs.Starts.{start_outcome, start_tree}
-use Rattle.vsm_core.specs.Steps.{learned, made, phase_of}
-use Rattle.vsm_core.specs.Tree.{Tree, Ends, Taking, follow, followed}
+use Rattle.vsm_core.specs.Steps.{learned, made}
+use Rattle.vsm_core.specs.Tree.{Ends, Taking, follow, followed}
 use Rattle.vsm_core.specs.Words.{answer_of, posted_at, words_by}
 use Rattle.vsm_core.proofs.FewEntries.{few-entries}
 use Rattle.cpu.specs.declared.cpu_turn.CpuTurn.{CpuTurn}
 use Rattle.cpu.specs.declared.cpu_turn.CpuTurn.TheVariants as turns
-use Rattle.cpu.specs.Turns.{AcceptsBy, LooksTo, Wakes, WakesBy, phase_at}
+use Rattle.cpu.specs.Turns.{AcceptsBy, LooksTo, Wakes, WakesBy}
 use Rattle.partition.specs.PartView.{PartView}
 use Rattle.vsm_report.specs.Trace.{made_steps}
-use Rattle.vsm_run.specs.Fits.{FitsOne}
-use Rattle.vsm_run.specs.Rests.{AllIdle, IsAtRest, IsInPlace}
-use Rattle.vsm_run.specs.Serving.{AddsFew, Agrees, HasRoomForOne, IsDone, NoneBusy, with_served}
+use Rattle.vsm_run.specs.Rests.{IsAtRest}
+use Rattle.vsm_run.specs.Serving.{AddsFew, Agrees, IsDone, with_served}
 use Rattle.vsm_run.specs.Starting.{StartsBy, Takes, Waits, fetches, start_word}
 use Rattle.vsm_run.proofs.BusyWords.{taking-agrees}
 use Rattle.vsm_run.proofs.Finishes.{none-seen, picked}
 use Rattle.vsm_run.proofs.Serves.{with_none}
-use Rattle.vsm_run.proofs.Wholes.{SameParts, Stepped, Tells, makes-told, same-some}
+use Rattle.vsm_run.proofs.Wholes.{SameParts, Stepped, Tells, makes-told}
 
 passed_by : {A : Type 0} (b : Bool) (x y : A) → b ≡ false → cond b x y ≡ y
 passed_by true x y e = cc
@@ -167,39 +164,6 @@ module _ (program : Program) (limits : Limits) (v : Vp) (s : PartitionState) (wo
 
   pub waits-few : (each : ℕ) (before : PartView) → start_word limits v words ≡ 0 → AddsFew each (made_steps program v s words) before before
   waits-few each before none = subst (λ (d : Did (List ℕ)). AddsFew each d before before) (sym (made-waits none)) (omega arith)
-
--- what a processor that took a start has and may do
-pub record MayFetch (program : Program) (limits : Limits) (phases : List Phase) (m : Vp) : Type 0 where
-  pub going : m.ended ≡ None
-  pub waits : m.started ≡ false
-  pub answered : m.owes ≡ false
-  pub fits : FitsOne program m
-  pub limits_same : m.limits ≡ limits
-  pub phase : get_or phases m.number Idle ≡ phase_at m.seen m.first
-  pub left : start_rest m ≡ fetches (origin_of m)
-
-taken-fetches : (program : Program) (limits : Limits) (phases : List Phase) (x : ℕ) (v : Vp) → IsInPlace limits v.number v → FitsOne program v → v.ended ≡ None → v.started ≡ false → AllIdle phases → MayFetch program limits phases (taken x v)
-taken-fetches program limits phases x v place fits going waits idle = record {
-  going = going;
-  waits = waits;
-  answered = place.answered;
-  fits = record { zero = fits.zero; one = fits.one; kept = tt };
-  limits_same = place.limits_same;
-  phase = idle v.number ∙ sym (ap (λ es. phase_of (reverse es)) (one-seen v (made (Taking Start) x) place.rests));
-  left = rest-taken x v place.rests place.unheard;
-}
-
-pub took-fetches : (program : Program) (limits : Limits) (phases : List Phase) (v m : Vp) (words now : List ℕ) → Takes limits v m words now → IsInPlace limits v.number v → FitsOne program v → v.ended ≡ None → v.started ≡ false → AllIdle phases → MayFetch program limits phases m
-took-fetches program limits phases v m words now takes place fits going waits idle =
-    subst (MayFetch program limits phases) (sym takes.sees) (taken-fetches program limits phases (start_word limits v words) v place fits going waits idle)
-
--- where no processor is in an access, all busy words are 0
-pub all-unbusy : (limits : Limits) (f : Fabric) → Agrees limits f → AllIdle f.phases → NoneBusy limits f.words
-all-unbusy limits f agrees idle = λ q low. agrees q low (idle q)
-
--- there is room for the entries of a fetch
-pub fetch-room : (before : PartView) (v : Vp) → HasRoomForOne before → length before.journal.entries + length (block before.state (fetch_of v)) ≤ before.journal.room
-fetch-room before v room = let few = few-entries before.state (fetch_of v) tt in omega arith
 
 -- a processor that took a start, m, and then asked, n, has its reply
 module _ (program : Program) (limits : Limits) (v : Vp) (before : PartView) (words : List ℕ) (waits : v.started ≡ false) (same : v.limits ≡ limits) (rests : IsAtRest v) (unheard : v.heard ≡ None) where

@@ -178,10 +178,10 @@ fn opened(alloc: Global, script: &Script) -> Result<Run, Memory>
 
 /// The report of a script's run, which is the same whether each attempt, or start, is made at once or step by step on the
 /// shared words. A processor that hasn't started does nothing at an entry of the schedule where its start word is 0, and
-/// else starts; its program begins at its next entry. What an attempt asks of the partition is served at once, in the state that the requests before it leave,
-/// with the step of each entry that it adds. The journal has the entries that these requests add, and is whole, and the
-/// masks are the opening masks with its asks applied. All memory is taken before the first turn; the only error is want
-/// of it.
+/// else starts; its program begins at its next entry, and without a start it ends `Unstarted`. What an attempt asks of the
+/// partition is served at once, in the state that the requests before it leave, with the step of each entry that it adds.
+/// The journal has the entries that these requests add, and is whole, and the masks are the opening masks with its asks
+/// applied. All memory is taken before the first turn; the only error is want of it.
 pub fn trace(alloc: Global, script: &Script) -> Result<Report, Memory>
     requires { IsWithin script.now }
     ensures at_once { IfOk result (λ report. report ≡ flat script.now) }

@@ -1,5 +1,4 @@
-use Rattle.std.proofs.Common.{◌≡◌, ◌+◌, ℕ, false, List, length, sym, ap, subst, ◌∙◌}
-use Rattle.vsm_base.specs.declared.places.Limits.{Limits}
+use Rattle.std.proofs.Common.{◌≡◌, ◌+◌, false, length, sym, ap, subst, ◌∙◌}
 use Rattle.vsm_core.specs.Entries.{words_by_entries}
 use Rattle.vsm_core.specs.Processor.{Vp}
 use Rattle.vsm_core.specs.Served.{block}
