@@ -1,15 +1,15 @@
-use Rattle.std.proofs.Common.{arith, rules, ◌≡◌, Some, None, true, false, refl, sym, ap, ◌∙◌}
+use Rattle.std.proofs.Common.{arith, ◌≡◌, Some, None, true, false, refl, sym, ap, ◌∙◌}
 use Rattle.vsm_base.specs.declared.places.Limits.{Limits}
 use Rattle.vsm_core.specs.Outcomes.{Origin}
 use Rattle.vsm_core.specs.Processor.{Vp, operation_at}
 use Rattle.vsm_core.specs.Seat.{Seat}
 use Rattle.cpu.specs.Sound.{view_of}
-use Rattle.cpu.specs.Stages.{IsUnderWay, IsWant, StageSteps}
+use Rattle.cpu.specs.Stages.{StageSteps}
 use Rattle.cpu.specs.Turns.{phase_at}
 use Rattle.cpu.specs.Inputs.{AskedIs}
 use Rattle.cpu.proofs.Lending.{IsOwnPort, stage-serves}
 use Rattle.cpu.proofs.PageSlices.{asked-slice}
-use Rattle.cpu.proofs.Replies.{unheard, want-rest}
+use Rattle.cpu.proofs.Replies.{unheard}
 use Rattle.cpu.proofs.Rests.{going-ends}
 use Rattle.cpu.proofs.Seen.{first-by-le, first-by-few, part-by-le}
 use Rattle.cpu.specs.Held.{origin_at}
@@ -17,67 +17,6 @@ use Rattle.cpu.proofs.Turning.{Stepped, again-kept, led-under, local-by, stepped
 use Rattle.cpu.proofs.Waking.{known}
 use Rattle.cpu.proofs.processor.Cpu.advance.Given.{Over}
 use Rattle.cpu.proofs.processor.Cpu.advance.Goals as goal
-
-pub invariant_of-self : goal.invariant_of-self
-invariant_of-self g c =
-    let i = c.self.inside in
-    let w = c.self.invariant in
-    let u = c.begun-under.result in
-    let going : i.log.ended ≡ None = rw (← c.self.view_is) at c.requires.going in
-    let started : i.started ≡ true = rw (← c.self.view_is) at c.requires.started in
-    let way : IsUnderWay (origin_at i.limits i.vp.0 i.bank i.levels i.controllers) u i.heard i.log.seen.0 i.log.part i.log.first = c.begun-under.ensures.means i.heard i.log.seen.0 i.log.part i.log.first (known i w started) in
-    let wants : IsWant u.stage = rw c.in-Want.is tt in
-    let r = want-rest (origin_at i.limits i.vp.0 i.bank i.levels i.controllers) u.op u.stage _ wants way.rest in
-    let quiet : i.heard ≡ None = unheard i.heard _ _ r.0 r.1 r.2 way.hears in
-    rw c.stand.ensures (record {
-      vp = w.vp;
-      budget = w.budget;
-      marks_room = w.marks_room;
-      seen_room = w.seen_room;
-      marks_few = let l = w.room going in omega (arith, l);
-      notes = w.notes;
-      part_few = w.part_few;
-      part_le = w.part_le;
-      first_few = w.first_few;
-      first_le = w.first_le;
-      seen_few = w.seen_few;
-      room = w.room;
-      running = w.running;
-      spins = w.spins;
-      owing = λ e. record { going = going; stood = refl; unheard = quiet; wants = λ is. wants; looked = λ no. let not : true ≡ false = sym started ∙ no in cc };
-      waits = λ e. let no : true ≡ false = sym started ∙ e in cc;
-      waiting = λ e. let no : true ≡ false = sym started ∙ e in cc;
-      means = way;
-    })
-
-pub invariant_of-self-then-not-is_going : goal.invariant_of-self-then-not-is_going
-invariant_of-self-then-not-is_going g c =
-    let i = c.self.inside in
-    let w = c.self.invariant in
-    let u = c.begun-under.result in
-    let going : i.log.ended ≡ None = rw (← c.self.view_is) at c.requires.going in
-    let started : i.started ≡ true = rw (← c.self.view_is) at c.requires.started in
-    let way : IsUnderWay (origin_at i.limits i.vp.0 i.bank i.levels i.controllers) u i.heard i.log.seen.0 i.log.part i.log.first = c.begun-under.ensures.means i.heard i.log.seen.0 i.log.part i.log.first (known i w started) in
-    rw c.stand.ensures (record {
-      vp = w.vp;
-      budget = w.budget;
-      marks_room = w.marks_room;
-      seen_room = w.seen_room;
-      marks_few = let l = w.room going in omega (arith, l);
-      notes = w.notes;
-      part_few = w.part_few;
-      part_le = w.part_le;
-      first_few = w.first_few;
-      first_le = w.first_le;
-      seen_few = w.seen_few;
-      room = w.room;
-      running = w.running;
-      spins = w.spins;
-      owing = λ e. let answered : i.owes ≡ false = rw (← c.self.view_is) at c.requires.answered in let no : true ≡ false = sym e ∙ answered in cc;
-      waits = λ e. let no : true ≡ false = sym started ∙ e in cc;
-      waiting = λ e. let no : true ≡ false = sym started ∙ e in cc;
-      means = way;
-    })
 
 pub returns-then-not-is_going-clause-turned : goal.returns-then-not-is_going-clause-turned
 returns-then-not-is_going-clause-turned g c =
@@ -91,6 +30,69 @@ returns-then-not-is_going-clause-turned g c =
     rw (← c.self.view_is, own) (local-by v v1 c.settle.new.self u.op ends.0 (g.P.Port.seat c.args.port.now) c.settle.result ends.1 (rw c.stand.ensures refl)
     (λ grant. again-kept (origin_at i.limits i.vp.0 i.bank i.levels i.controllers) i.under u i.heard i.log.seen.0 i.log.part i.log.first ends.0 grant (known i c.self.invariant (rw (← c.self.view_is) at c.requires.started)) c.begun-under.ensures.kept ends.1)
     c.settle.ensures.new c.settle.ensures.turn)
+
+pub invariant_of-self : goal.invariant_of-self
+invariant_of-self g c =
+    let i = c.self.inside in
+    let w = c.self.invariant in
+    let u = c.begun-under.result in
+    let going : i.log.ended ≡ None = rw (← c.self.view_is) at c.requires.going in
+    let started : i.started ≡ true = rw (← c.self.view_is) at c.requires.started in
+    let means = c.begun-under.ensures.means i.heard i.log.seen.0 i.log.part i.log.first (known i w started) in
+    let rest = rw c.in-Want.is at means.rest in
+    let quiet : i.heard ≡ None = unheard i.heard _ _ _ _ rest means.hears in
+    rw c.stand.ensures (record {
+      vp = w.vp;
+      vps = w.vps;
+      budget = w.budget;
+      marks_room = w.marks_room;
+      seen_room = w.seen_room;
+      marks_few = let l = w.room going in omega (arith, l);
+      notes = w.notes;
+      part_few = w.part_few;
+      part_le = w.part_le;
+      first_few = w.first_few;
+      first_le = w.first_le;
+      seen_few = w.seen_few;
+      room = w.room;
+      running = w.running;
+      spins = w.spins;
+      owing = λ e. record { going = going; stood = refl; unheard = quiet; wants = λ s. rw c.in-Want.is tt; looked = λ n. let no : true ≡ false = sym started ∙ n in cc };
+      waits = λ e. let no : true ≡ false = sym started ∙ e in cc;
+      waiting = λ e. let no : true ≡ false = sym started ∙ e in cc;
+      means = means;
+    })
+
+pub invariant_of-self-then-not-is_going : goal.invariant_of-self-then-not-is_going
+invariant_of-self-then-not-is_going g c =
+    let i = c.self.inside in
+    let w = c.self.invariant in
+    let u = c.begun-under.result in
+    let going : i.log.ended ≡ None = rw (← c.self.view_is) at c.requires.going in
+    let started : i.started ≡ true = rw (← c.self.view_is) at c.requires.started in
+    let means = c.begun-under.ensures.means i.heard i.log.seen.0 i.log.part i.log.first (known i w started) in
+    let answered : i.owes ≡ false = rw (← c.self.view_is) at c.requires.answered in
+    rw c.stand.ensures (record {
+      vp = w.vp;
+      vps = w.vps;
+      budget = w.budget;
+      marks_room = w.marks_room;
+      seen_room = w.seen_room;
+      marks_few = let l = w.room going in omega (arith, l);
+      notes = w.notes;
+      part_few = w.part_few;
+      part_le = w.part_le;
+      first_few = w.first_few;
+      first_le = w.first_le;
+      seen_few = w.seen_few;
+      room = w.room;
+      running = w.running;
+      spins = w.spins;
+      owing = λ e. let no : true ≡ false = sym e ∙ answered in cc;
+      waits = λ e. let no : true ≡ false = sym started ∙ e in cc;
+      waiting = λ e. let no : true ≡ false = sym started ∙ e in cc;
+      means = means;
+    })
 
 pub step-step-requires : goal.step-step-requires
 step-step-requires g c =
