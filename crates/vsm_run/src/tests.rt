@@ -260,7 +260,9 @@ fn a_processor_that_nobody_starts_does_nothing(rt: HostRuntime) -> Result<(), Fa
     let report = run(rt.alloc(), NEVER_STARTS)?;
     let lines = [Line::Mark(VpIndex(0), mark(0, What::Plain, 0, 0))];
     assert_eq!(rt; report.lines.as_slice(), lines.as_slice());
-    assert_eq!(rt; report.tracks.as_slice()[1].seen.len(), 0);
+    assert_eq!(rt; report.tracks.len(), 2);
+    let track = &report.tracks.as_slice()[1];
+    assert_eq!(rt; track.seen.len(), 0);
     let ends = [Ending::Done, Ending::Unstarted];
     assert_eq!(rt; report.ends.as_slice(), ends.as_slice());
     Ok(())
