@@ -95,12 +95,12 @@ fn a_fast_call_posts_at_once(rt: HostRuntime) -> Result<(), Fail> {
 #[test]
 fn a_level_that_is_named_is_interrupted(rt: HostRuntime) -> Result<(), Fail> {
     let alloc = rt.alloc();
-    let own = post(1, Vtl::One, 1, 1);
-    let lower = post(1, Vtl::Zero, 1, 1);
-    sends(alloc, Vtl::One, 0x40, 2, 0, &[own])?;
-    sends(alloc, Vtl::One, 0x11_0000_0040, 2, 0, &[own])?;
-    sends(alloc, Vtl::One, 0x10_0000_0040, 2, 0, &[lower])?;
-    sends(alloc, Vtl::Zero, 0x10_0000_0040, 2, 0, &[lower])
+    let own = [post(1, Vtl::One, 1, 1)];
+    let lower = [post(1, Vtl::Zero, 1, 1)];
+    sends(alloc, Vtl::One, 0x40, 2, 0, &own)?;
+    sends(alloc, Vtl::One, 0x11_0000_0040, 2, 0, &own)?;
+    sends(alloc, Vtl::One, 0x10_0000_0040, 2, 0, &lower)?;
+    sends(alloc, Vtl::Zero, 0x10_0000_0040, 2, 0, &lower)
 }
 
 #[test]

@@ -21,20 +21,17 @@ fn context(rip: u64, rsp: u64) -> [u64; 28] {
     words
 }
 
-fn run_of<'a>(way: Way<'a>, fetched: Fetched, attempts: usize) -> Run<'a> {
-    Run {
+/// Makes so many attempts of a processor that waits and fetches these at its start.
+fn starts(alloc: Global, fetched: Fetched, attempts: usize, left: &[Left]) -> Result<(), Fail> {
+    let run = Run {
         zero: &ZERO,
         one: &ONE,
         opening: Opening::Waiting(fetched),
-        way,
+        way: Way::Fed(&LOOKS),
         attempts,
         turns: 0,
-    }
-}
-
-/// Makes so many attempts of a processor that waits and fetches these at its start.
-fn starts(alloc: Global, fetched: Fetched, attempts: usize, left: &[Left]) -> Result<(), Fail> {
-    leaves(alloc, &run_of(Way::Fed(&LOOKS), fetched, attempts), left)
+    };
+    leaves(alloc, &run, left)
 }
 
 #[test]
@@ -54,8 +51,16 @@ fn a_processor_waits_for_its_start(rt: HostRuntime) -> Result<(), Fail> {
 
 #[test]
 fn a_posted_start_is_taken(rt: HostRuntime) -> Result<(), Fail> {
+    let run = Run {
+        zero: &ZERO,
+        one: &ONE,
+        opening: Opening::Waiting(None),
+        way: Way::Started,
+        attempts: 1,
+        turns: 0,
+    };
     let left = [Left::Last(Answer::Attempt), Left::Start(0)];
-    leaves(rt.alloc(), &run_of(Way::Started, None, 1), &left)
+    leaves(rt.alloc(), &run, &left)
 }
 
 #[test]
@@ -72,12 +77,17 @@ fn it_starts_at_level_0(rt: HostRuntime) -> Result<(), Fail> {
         Left::Enabled(false),
         Left::Register(Vtl::Zero, Name::Rsp, 7),
     ];
-    starts(rt.alloc(), fetched, 2, &left)?;
+    starts(rt.alloc(), fetched, 2, &left)
+}
+
+#[test]
+fn its_program_begins_after_its_start(rt: HostRuntime) -> Result<(), Fail> {
     let left = [
         Left::Whats(&[What::Started, What::Value(7)]),
         Left::Span(1, 1, 0),
         Left::Ended(Some(Ending::Done)),
     ];
+    let fetched = Some((Vtl::Zero, context(1, 7), None));
     starts(rt.alloc(), fetched, 3, &left)
 }
 
@@ -145,6 +155,13 @@ fn a_start_may_end_it(rt: HostRuntime) -> Result<(), Fail> {
         Left::Ended(Some(Ending::Budget)),
     ];
     let within = Some((Vtl::Zero, context(1, 7), None));
-    let run = run_of(Way::Fed(&LOOKS), within, 2);
+    let run = Run {
+        zero: &ZERO,
+        one: &ONE,
+        opening: Opening::Waiting(within),
+        way: Way::Fed(&LOOKS),
+        attempts: 2,
+        turns: 0,
+    };
     starts_under(rt.alloc(), 1, &run, &LOOKS, &spent)
 }
