@@ -1,5 +1,6 @@
 // The top call over streams in memory.
 use super::*;
+use crate::cases::Case;
 use std::alloc::{AllocError, Global};
 use std::test::Fail;
 use vsm_base::{MemSink, MemSource, SureSink, SureSource};
@@ -18,55 +19,83 @@ fn traced(alloc: Global, source: &mut MemSource, sink: &mut MemSink) -> Result<S
     Ok(serve_plain(alloc, words.as_slice(), source, sink))
 }
 
-#[test]
-fn each_script_gives_the_report_that_was_worked_out_apart_from_the_program(
-    rt: HostRuntime,
-) -> Result<(), Fail> {
-    let alloc = rt.alloc();
-    let groups = [
-        cases::ALL.as_slice(),
-        hypercall_cases::CALLS.as_slice(),
-        hypercall_cases::REFUSALS.as_slice(),
-        register_cases::REGISTERS.as_slice(),
-        register_cases::SLICES.as_slice(),
-        intercept_cases::INTERCEPTS.as_slice(),
-        name_cases::NAMES_AT_LEVEL_0.as_slice(),
-        name_cases::NAMES_AT_LEVEL_1.as_slice(),
-        name_cases::REFUSALS_AT_LEVEL_1.as_slice(),
-        protection_cases::PROTECTION.as_slice(),
-        protection_cases::SLICES_OF_PAGES.as_slice(),
-        protection_cases::ALL_PAGES.as_slice(),
-        change_cases::FIRST.as_slice(),
-        change_cases::SECOND.as_slice(),
-        change_cases::THIRD.as_slice(),
-        change_cases::FOURTH.as_slice(),
-        change_cases::FIFTH.as_slice(),
-        protection_refusals::REFUSED_CALLS.as_slice(),
-        protection_refusals::REFUSED_CONFIGURATIONS.as_slice(),
-        start_cases::STARTS.as_slice(),
-        start_cases::BOOTED.as_slice(),
-        start_cases::STANDINGS.as_slice(),
-        start_cases::LEVELS_OF_OTHERS.as_slice(),
-        start_cases::REFUSED_STARTS.as_slice(),
-        interrupt_cases::SETS_AT_LEVEL_0.as_slice(),
-        interrupt_cases::SETS_AT_LEVEL_1_TOO.as_slice(),
-        interrupt_cases::VECTORS.as_slice(),
-        interrupt_cases::INTERRUPTS.as_slice(),
-    ];
-    for group in groups {
-        for case in group {
-            let mut source = MemSource::new(case.script.to_vec(alloc)?, Vec::new(alloc), 4096);
-            let mut sink = MemSink::new(vec![in alloc; 0; ROOM]?, Vec::new(alloc), 4096);
-            assert_eq!(rt;
-                traced(alloc, &mut source, &mut sink)?,
-                case.status,
-                "{}",
-                case.name
-            );
-            assert_eq!(rt; sink.taken(), case.text, "{}", case.name);
-        }
+// Fails with the name of a script for which the program doesn't write the report that was worked out apart from it.
+fn gives(alloc: Global, case: &Case) -> Result<(), Fail> {
+    let mut source = MemSource::new(case.script.to_vec(alloc)?, Vec::new(alloc), 4096);
+    let mut sink = MemSink::new(vec![in alloc; 0; ROOM]?, Vec::new(alloc), 4096);
+    let status = traced(alloc, &mut source, &mut sink)?;
+    if status == case.status && sink.taken() == case.text {
+        return Ok(());
+    }
+    Err(Fail::new(format_args!("{} gives another report", case.name)))
+}
+
+fn each_gives(alloc: Global, group: &[Case]) -> Result<(), Fail> {
+    for case in group {
+        gives(alloc, case)?;
     }
     Ok(())
+}
+
+#[test]
+fn scripts_of_accesses_and_calls_give_their_reports(rt: HostRuntime) -> Result<(), Fail> {
+    let alloc = rt.alloc();
+    each_gives(alloc, cases::ALL.as_slice())?;
+    each_gives(alloc, hypercall_cases::CALLS.as_slice())?;
+    each_gives(alloc, hypercall_cases::REFUSALS.as_slice())?;
+    each_gives(alloc, intercept_cases::INTERCEPTS.as_slice())
+}
+
+#[test]
+fn scripts_of_registers_give_their_reports(rt: HostRuntime) -> Result<(), Fail> {
+    let alloc = rt.alloc();
+    each_gives(alloc, register_cases::REGISTERS.as_slice())?;
+    each_gives(alloc, register_cases::SLICES.as_slice())?;
+    each_gives(alloc, name_cases::NAMES_AT_LEVEL_0.as_slice())?;
+    each_gives(alloc, name_cases::NAMES_AT_LEVEL_1.as_slice())?;
+    each_gives(alloc, name_cases::REFUSALS_AT_LEVEL_1.as_slice())
+}
+
+#[test]
+fn scripts_of_protection_give_their_reports(rt: HostRuntime) -> Result<(), Fail> {
+    let alloc = rt.alloc();
+    each_gives(alloc, protection_cases::PROTECTION.as_slice())?;
+    each_gives(alloc, protection_cases::SLICES_OF_PAGES.as_slice())?;
+    each_gives(alloc, protection_cases::ALL_PAGES.as_slice())?;
+    each_gives(alloc, protection_refusals::REFUSED_CALLS.as_slice())?;
+    each_gives(
+        alloc,
+        protection_refusals::REFUSED_CONFIGURATIONS.as_slice(),
+    )
+}
+
+#[test]
+fn scripts_that_change_masks_give_their_reports(rt: HostRuntime) -> Result<(), Fail> {
+    let alloc = rt.alloc();
+    each_gives(alloc, change_cases::FIRST.as_slice())?;
+    each_gives(alloc, change_cases::SECOND.as_slice())?;
+    each_gives(alloc, change_cases::THIRD.as_slice())?;
+    each_gives(alloc, change_cases::FOURTH.as_slice())?;
+    each_gives(alloc, change_cases::FIFTH.as_slice())
+}
+
+#[test]
+fn scripts_of_starts_give_their_reports(rt: HostRuntime) -> Result<(), Fail> {
+    let alloc = rt.alloc();
+    each_gives(alloc, start_cases::STARTS.as_slice())?;
+    each_gives(alloc, start_cases::BOOTED.as_slice())?;
+    each_gives(alloc, start_cases::STANDINGS.as_slice())?;
+    each_gives(alloc, start_cases::LEVELS_OF_OTHERS.as_slice())?;
+    each_gives(alloc, start_cases::REFUSED_STARTS.as_slice())
+}
+
+#[test]
+fn scripts_of_interrupts_give_their_reports(rt: HostRuntime) -> Result<(), Fail> {
+    let alloc = rt.alloc();
+    each_gives(alloc, interrupt_cases::SETS_AT_LEVEL_0.as_slice())?;
+    each_gives(alloc, interrupt_cases::SETS_AT_LEVEL_1_TOO.as_slice())?;
+    each_gives(alloc, interrupt_cases::VECTORS.as_slice())?;
+    each_gives(alloc, interrupt_cases::INTERRUPTS.as_slice())
 }
 
 #[test]
