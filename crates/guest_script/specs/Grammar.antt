@@ -1,5 +1,5 @@
 -- The script that bytes spell, or the first line that is refused.
-use Rattle.std.specs.Prelude.{ℕ, ◌+◌, List, [], ◌∷◌, Bool, true, false, if◌then◌else◌, Result, Ok, Err}
+use Rattle.std.specs.Prelude.{ℕ, ◌+◌, ◌-◌, ◌^◌, min, List, [], ◌∷◌, Bool, true, false, if◌then◌else◌, Result, Ok, Err}
 use Rattle.guest_script.specs.Lines.{lines_of}
 use Rattle.guest_script.specs.Line.{after_line}
 use Rattle.guest_script.specs.Programs.{nothings}
@@ -30,10 +30,14 @@ abbrev pub gone_on : Result Reading Why → ℕ → (Reading → Result Script R
 gone_on (Ok r) line rest = rest r
 gone_on (Err why) line rest = Err (record { line = line; why = why })
 
+-- the number of the line after the one of this number, as far as 32 bits go
+abbrev pub next_number : ℕ → ℕ
+next_number n = min (n + 1) (2 ^ 32 - 1)
+
 -- what lines say, the first of which has this number
 abbrev pub said_by : Reading → ℕ → List (List ℕ) → Result Script Refusal
 said_by r n [] = finished r n
-said_by r n (line ∷ lines) = gone_on (after_line r line) n (λ next. said_by next (n + 1) lines)
+said_by r n (line ∷ lines) = gone_on (after_line r line) n (λ next. said_by next (next_number n) lines)
 
 -- the script that bytes spell, or the first line that is refused
 unfoldable pub script : List ℕ → Result Script Refusal

@@ -1,5 +1,5 @@
 -- What a line does to what has been read so far, or why it is refused.
-use Rattle.std.specs.Prelude.{ℕ, ◌+◌, ◌^◌, List, [], ◌∷◌, ◌++◌, length, Bool, ◌&&◌, if◌then◌else◌, ◌==◌, nat_lt, nat_le, Option, Some, None, Result, Ok, Err, ◌≡◌}
+use Rattle.std.specs.Prelude.{ℕ, ◌+◌, ◌^◌, List, [], ◌∷◌, ◌++◌, length, Bool, false, ◌&&◌, if◌then◌else◌, ◌==◌, nat_lt, nat_le, Option, Some, None, Result, Ok, Err, ◌≡◌}
 use Rattle.std.specs.List.{list_any, list_all}
 use Rattle.vsm_base.specs.declared.places.Page.{Page}
 use Rattle.vsm_core.specs.declared.operation.Op.{Op}
@@ -268,14 +268,19 @@ after_words r words.Schedule ws = schedule_line r ws
 after_words r words.End ws = end_line r ws
 
 -- the reading after a line of this kind, where it can stand here
-abbrev after_keyword : Reading → Option Keyword → Words → Result Reading Why
+abbrev pub after_keyword : Reading → Option Keyword → Words → Result Reading Why
 after_keyword r None ws = Err UnknownWord
 after_keyword r (Some keyword) ws = if stands keyword r.stage then after_words r keyword ws else Err OutOfOrder
 
--- the reading after a line of these words
-abbrev after_first : Reading → Words → Result Reading Why
-after_first r [] = Err UnknownWord
-after_first r (word ∷ ws) = after_keyword r (keyword_of word) ws
+-- a first word that makes its line a comment
+abbrev pub is_comment : List ℕ → Bool
+is_comment [] = false
+is_comment (b ∷ word) = b == 35
+
+-- the reading after a line of these words; a line without words is skipped, and so is a comment
+abbrev pub after_first : Reading → Words → Result Reading Why
+after_first r [] = Ok r
+after_first r (word ∷ ws) = if is_comment word then Ok r else after_keyword r (keyword_of word) ws
 
 -- the reading after a line
 unfoldable pub after_line : Reading → List ℕ → Result Reading Why

@@ -1,7 +1,7 @@
 // Reading a whole script.
 ghost use Rattle.std.specs.Prelude.{◌≡◌, IfOk};
 ghost use Rattle.guest_script.specs.Within.{IsWithin};
-ghost use Rattle.guest_script.specs.Grammar.{is_done};
+ghost use Rattle.guest_script.specs.Grammar.{is_done, script};
 ghost use Rattle.guest_script.specs.Read.{IsReadAs};
 ghost use Rattle.guest_script.specs.declared.reader.ReadError.TheVariants.{Memory};
 
@@ -14,8 +14,7 @@ use std::alloc::{AllocError, Global};
 /// Why there is no script.
 #[derive(Clone, Copy, Debug, PartialEq, Eq)]
 pub enum ReadError {
-    /// A line is refused. Neither which one nor its cause is told yet: the line is 0 and the cause
-    /// `UnknownWord`.
+    /// The bytes are no script: this line is the first that is refused, and why.
     Refused(Refusal),
     /// There was no memory for the script.
     Memory,
@@ -36,36 +35,38 @@ fn is_done(stage: Stage) -> bool
     matches!(stage, Stage::Done)
 }
 
-// The refusal that tells neither line nor cause.
-const UNTOLD: ReadError = ReadError::Refused(Refusal {
-    line: 0,
-    why: Why::UnknownWord,
-});
-
-/// The script that bytes spell.
+/// The script that bytes spell. The language is this project's own.
 ///
 /// # Errors
 ///
-/// `Refused` where a line can't be read, or where the script ends without `end`; `Memory` where there was no
-/// memory.
+/// `Refused` exactly where the bytes spell no script, with the first line that is refused and the first of its
+/// causes; where no line is refused and `end` doesn't come, with the number after the last line's and `Cut`.
+/// `Memory` where there was no memory.
 #[tactic(auto, unfolding(crate::specs::Grammar::script))]
 pub fn read(alloc: Global, bytes: &[u8]) -> Result<Script, ReadError>
-    ensures said { IsReadAs result bytes.now }
+    ensures said { IsReadAs result (script bytes.now) }
     ensures within { IfOk result IsWithin }
 {
     let mut reading = Reading::new(alloc)?;
     let mut rest = bytes;
+    let mut number: u32 = 1;
     while !rest.is_empty() {
         let (line, others) = split_line(rest);
         match reading.line(alloc, line) {
             Ok(()) => {}
-            Err(LineError::Refused(_)) => return Err(UNTOLD),
+            Err(LineError::Refused(why)) => {
+                return Err(ReadError::Refused(Refusal { line: number, why }));
+            }
             Err(LineError::Memory) => return Err(ReadError::Memory),
         }
+        number = number.saturating_add(1);
         rest = others;
     }
     if !is_done(reading.stage) {
-        return Err(UNTOLD);
+        return Err(ReadError::Refused(Refusal {
+            line: number,
+            why: Why::Cut,
+        }));
     }
     Ok(reading.into_script())
 }

@@ -3,7 +3,7 @@ ghost use Rattle.std.specs.Prelude.{◌≡◌, IfOk, IsTrue};
 ghost use Rattle.std.specs.List.{list_all};
 ghost use Rattle.guest_script.specs.Lines.{words_of};
 ghost use Rattle.guest_script.specs.Fields.{entries};
-ghost use Rattle.guest_script.specs.Line.{Becomes, Collects, is_text, vsm_line, vps_line, pages_line, budget_line, started_line, mask_line, word_line, program_line, with_op, set_line, get_line, load_line, store_line, exec_line, spin_line, jump_line, jump_ne_line, hypercall_line, vtl_call_line, vtl_return_line, poll_line, ack_line, eoi_line, eom_line, schedule_line, end_line, after_words, after_line, is_masked, is_begun};
+ghost use Rattle.guest_script.specs.Line.{Becomes, Collects, is_text, is_comment, vsm_line, vps_line, pages_line, budget_line, started_line, mask_line, word_line, program_line, with_op, set_line, get_line, load_line, store_line, exec_line, spin_line, jump_line, jump_ne_line, hypercall_line, vtl_call_line, vtl_return_line, poll_line, ack_line, eoi_line, eom_line, schedule_line, end_line, after_words, after_line, is_masked, is_begun};
 ghost use Rattle.guest_script.specs.Schedules.{all_known};
 ghost use Rattle.guest_script.specs.Sound.{IsSound, script_of};
 ghost use Rattle.guest_script.specs.declared.reading.LineError.TheVariants.{Memory, Refused};
@@ -64,6 +64,12 @@ fn is_text(line: &[u8]) -> bool
     ensures { result ≡ list_all is_text line.now }
 {
     line.iter().all(|b| 32 <= *b && *b <= 126)
+}
+
+fn is_comment(word: &[u8]) -> bool
+    ensures { result ≡ is_comment word.now }
+{
+    word.first() == Some(&b'#')
 }
 
 fn is_masked(page: u32, masks: &[(Page, Mask)]) -> bool
@@ -487,7 +493,7 @@ impl Reading {
         }
     }
 
-    /// Reads a line.
+    /// Reads a line. One that has no words, or whose first word begins with a number sign, changes nothing.
     #[tactic(auto, unfolding(crate::specs::Line::after_line))]
     pub fn line(&mut self, alloc: Global, line: &[u8]) -> Result<(), LineError>
         requires sound { IsSound self.old }
@@ -498,8 +504,11 @@ impl Reading {
             return Err(LineError::Refused(Why::NotText));
         }
         let Some((word, rest)) = next_word(line) else {
-            return Err(LineError::Refused(Why::UnknownWord));
+            return Ok(());
         };
+        if is_comment(word) {
+            return Ok(());
+        }
         let Some(keyword) = keyword_of(word) else {
             return Err(LineError::Refused(Why::UnknownWord));
         };

@@ -33,7 +33,7 @@ pub struct Script {
 pub enum Why {
     /// A byte is neither a space nor printable ASCII.
     NotText,
-    /// The first word is none of the language, or there is none.
+    /// The first word is none of the language.
     UnknownWord,
     /// The line can't stand here.
     OutOfOrder,
@@ -57,9 +57,10 @@ pub enum Why {
     Cut,
 }
 
-/// The first line that is refused, counted from 1, or 0 where it isn't told.
+/// Why bytes are no script.
 #[derive(Clone, Copy, Debug, PartialEq, Eq)]
 pub struct Refusal {
+    /// The first line that is refused, counted from 1, skipped lines among them; the count stops at 2^32 - 1.
     pub line: u32,
     pub why: Why,
 }
