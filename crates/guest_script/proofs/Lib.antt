@@ -2,4 +2,6 @@ pub mod Ends
 pub mod Entries
 pub mod Known
 pub mod Numerals
+pub mod Printable
 pub mod Splits
+pub mod Spoken

@@ -3,10 +3,15 @@ pub mod Grammar
 pub mod Keywords
 pub mod Line
 pub mod Lines
+pub mod Made
 pub mod Numbers
+pub mod Print
+pub mod Printing
 pub mod Programs
 pub mod Read
 pub mod Schedules
 pub mod Sound
+pub mod Tokens
+pub mod Why
 pub mod Within
 pub mod Words

@@ -77,7 +77,7 @@ const ALL: [Keyword; 25] = [
 
 impl Keyword {
     /// How it is spelled.
-    fn text(self) -> &'static [u8]
+    pub fn text(self) -> &'static [u8]
         ensures { result.now ≡ spelling self }
     {
         match self {

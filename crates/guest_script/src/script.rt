@@ -57,6 +57,31 @@ pub enum Why {
     Cut,
 }
 
+impl Why {
+    ghost use Rattle.std.specs.Prelude.{◌≡◌};
+    ghost use Rattle.guest_script.specs.Why.{why_text};
+
+    /// The words by which a refusal says it.
+    pub fn text(self) -> &'static [u8]
+        ensures { result.now ≡ why_text self }
+    {
+        match self {
+            Why::NotText => b"not text",
+            Why::UnknownWord => b"unknown word",
+            Why::OutOfOrder => b"out of order",
+            Why::MissingWord => b"missing word",
+            Why::BadNumber => b"bad number",
+            Why::BadName => b"bad name",
+            Why::BadEntry => b"bad entry",
+            Why::OutOfRange => b"out of range",
+            Why::ExtraWord => b"extra word",
+            Why::Twice => b"twice",
+            Why::TooMany => b"too many",
+            Why::Cut => b"cut",
+        }
+    }
+}
+
 /// Why bytes are no script.
 #[derive(Clone, Copy, Debug, PartialEq, Eq)]
 pub struct Refusal {

@@ -454,3 +454,13 @@ fn the_program_of_each_level_may_reach_its_limit(rt: HostRuntime) -> Result<(), 
     assert!(rt; is_refused(rt.alloc(), &with_two_programs(rt.alloc(), 0, 4097)?));
     Ok(())
 }
+
+#[test]
+fn a_made_script_is_printed_and_read_again(rt: HostRuntime) -> Result<(), Fail> {
+    let made = make(rt.alloc(), 1)?;
+    let text = print(rt.alloc(), &made)?;
+    rt.print(std::str::from_utf8(&text)?)?;
+    let again = read(rt.alloc(), &text)?;
+    assert_eq!(rt; print(rt.alloc(), &again)?.as_slice(), text.as_slice());
+    Ok(())
+}
