@@ -5,3 +5,4 @@ pub mod Numerals
 pub mod Printable
 pub mod Splits
 pub mod Spoken
+pub mod SpokenNumbers
