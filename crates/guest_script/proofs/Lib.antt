@@ -5,4 +5,5 @@ pub mod Numerals
 pub mod Printable
 pub mod Splits
 pub mod Spoken
+pub mod SpokenLines
 pub mod SpokenNumbers

@@ -27,10 +27,11 @@ digit_at base [] k a l = absurd (omega arith)
 digit_at base (d ∷ ds) zero a l = a.0
 digit_at base (d ∷ ds) (suc k) a l = digit_at base ds k a.1 (omega arith)
 
--- digits are shown
+-- a digit is shown
 digit_is_shown : (c : ℕ) → digit_value c < 16 → is_shown c ≡ true
 digit_is_shown c d = grind (arith, nat_tests)
 
+-- and so are all digits of a number
 pub digits_are_shown : (base : ℕ) (ds : List ℕ) → base ≤ 16 → AllDigits base ds → list_all is_shown ds ≡ true
 digits_are_shown base [] b a = refl
 digits_are_shown base (d ∷ ds) b a = rw (digit_is_shown d (omega (arith, a.0)), digits_are_shown base ds b a.1) refl
@@ -87,6 +88,7 @@ no_prefix (c ∷ d ∷ ds) a e =
     let r : digit_value 120 < 10 = rw q at a.1.0 in
     absurd (omega (arith, r))
 
+-- a test that cannot pass
 is_false : (b : Bool) → (b ≡ true → ⊥) → b ≡ false
 is_false true n = absurd (n refl)
 is_false false n = refl
@@ -111,6 +113,7 @@ pub any_number-decimal : (n : ℕ) (ws : Words) → n < 2 ^ 64 → any_number (d
 unfolding any_number
 any_number-decimal n ws f = rw (number_of-decimal n f) refl
 
+-- any value or address that is printed
 pub any_number-hex : (n : ℕ) (ws : Words) → n < 2 ^ 128 → any_number (hex n ∷ ws) ≡ Ok (n, ws)
 unfolding any_number
 any_number-hex n ws f = rw (number_of-hex n f) refl
@@ -123,6 +126,7 @@ number-decimal low high n ws f a b =
     let q : nat_lt n high ≡ true = grind (arith, nat_tests) in
     rw (any_number-decimal n ws f, p, q) refl
 
+-- a value or an address in range
 pub number-hex : (low high n : ℕ) (ws : Words) → n < 2 ^ 128 → low ≤ n → n < high → number low high (hex n ∷ ws) ≡ Ok (n, ws)
 unfolding number
 number-hex low high n ws f a b =
