@@ -7,3 +7,4 @@ pub mod Splits
 pub mod Spoken
 pub mod SpokenLines
 pub mod SpokenNumbers
+pub mod SpokenOps

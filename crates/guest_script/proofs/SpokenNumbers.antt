@@ -1,5 +1,5 @@
 -- Numbers and names that are printed are words, and are read again.
-use Rattle.std.proofs.Common.{◌≡◌, ℕ, zero, suc, ◌+◌, ◌/◌, ◌%◌, ◌==◌, ◌^◌, ◌<◌, ◌≤◌, List, [], ◌∷◌, length, take, drop, get_or, Bool, true, false, cond, nat_lt, nat_le, Some, Ok, refl, ap, ◌∙◌, arith, codes}
+use Rattle.std.proofs.Common.{◌≡◌, ℕ, zero, suc, ◌+◌, ◌/◌, ◌%◌, ◌==◌, ◌^◌, ◌<◌, ◌≤◌, List, [], ◌∷◌, length, take, drop, get_or, Bool, true, false, cond, ◌&&◌, nat_lt, nat_le, find, Some, Ok, refl, ap, ◌∙◌, arith, codes}
 use Rattle.std.specs.List.{list_all}
 use Rattle.std.specs.Char.{digit_value}
 use Rattle.std.specs.Fmt.{decimal, digits, digits_onto, digit_glyph}
@@ -8,7 +8,7 @@ use Rattle.std.specs.Str.Parse.{AllDigits}
 use Rattle.std.proofs.lemmas.Bool.Decides.{nat_tests}
 use Rattle.std.proofs.lemmas.Fmt.{decimal_is_IsNumeral, digits_is_IsNumeral, length-decimal-le}
 use Rattle.std.proofs.lemmas.Slice.Eq.{bytes_eq-Decides}
-use Rattle.vsm_base.specs.Names.{spelling, named_by, all_names}
+use Rattle.vsm_base.specs.Names.{spelling, named_by, is_spelled, all_names}
 use Rattle.vsm_base.specs.declared.name.Name.{Name}
 use Rattle.vsm_base.specs.declared.name.Name.TheVariants as names
 use Rattle.guest_script.proofs.Numerals.{numeral-digits}
@@ -134,65 +134,6 @@ number-hex low high n ws f a b =
     let q : nat_lt n high ≡ true = grind (arith, nat_tests) in
     rw (any_number-hex n ws f, p, q) refl
 
--- a register's name is a word
-pub name_is_word : (name : Name) → IsWord (spelling name)
-name_is_word names.Rax = record { some = omega arith; shown = refl }
-name_is_word names.Rcx = record { some = omega arith; shown = refl }
-name_is_word names.Rdx = record { some = omega arith; shown = refl }
-name_is_word names.Rbx = record { some = omega arith; shown = refl }
-name_is_word names.Rsp = record { some = omega arith; shown = refl }
-name_is_word names.Rbp = record { some = omega arith; shown = refl }
-name_is_word names.Rsi = record { some = omega arith; shown = refl }
-name_is_word names.Rdi = record { some = omega arith; shown = refl }
-name_is_word names.R8 = record { some = omega arith; shown = refl }
-name_is_word names.R9 = record { some = omega arith; shown = refl }
-name_is_word names.R10 = record { some = omega arith; shown = refl }
-name_is_word names.R11 = record { some = omega arith; shown = refl }
-name_is_word names.R12 = record { some = omega arith; shown = refl }
-name_is_word names.R13 = record { some = omega arith; shown = refl }
-name_is_word names.R14 = record { some = omega arith; shown = refl }
-name_is_word names.R15 = record { some = omega arith; shown = refl }
-name_is_word names.Rip = record { some = omega arith; shown = refl }
-name_is_word names.Rflags = record { some = omega arith; shown = refl }
-name_is_word names.Cr0 = record { some = omega arith; shown = refl }
-name_is_word names.Cr2 = record { some = omega arith; shown = refl }
-name_is_word names.Cr3 = record { some = omega arith; shown = refl }
-name_is_word names.Cr4 = record { some = omega arith; shown = refl }
-name_is_word names.Cr8 = record { some = omega arith; shown = refl }
-name_is_word names.Dr0 = record { some = omega arith; shown = refl }
-name_is_word names.Dr1 = record { some = omega arith; shown = refl }
-name_is_word names.Dr2 = record { some = omega arith; shown = refl }
-name_is_word names.Dr3 = record { some = omega arith; shown = refl }
-name_is_word names.Dr6 = record { some = omega arith; shown = refl }
-name_is_word names.Dr7 = record { some = omega arith; shown = refl }
-name_is_word names.Es = record { some = omega arith; shown = refl }
-name_is_word names.Cs = record { some = omega arith; shown = refl }
-name_is_word names.Ss = record { some = omega arith; shown = refl }
-name_is_word names.Ds = record { some = omega arith; shown = refl }
-name_is_word names.Fs = record { some = omega arith; shown = refl }
-name_is_word names.Gs = record { some = omega arith; shown = refl }
-name_is_word names.Ldtr = record { some = omega arith; shown = refl }
-name_is_word names.Tr = record { some = omega arith; shown = refl }
-name_is_word names.Idtr = record { some = omega arith; shown = refl }
-name_is_word names.Gdtr = record { some = omega arith; shown = refl }
-name_is_word names.Efer = record { some = omega arith; shown = refl }
-name_is_word names.KernelGsBase = record { some = omega arith; shown = refl }
-name_is_word names.Pat = record { some = omega arith; shown = refl }
-name_is_word names.SysenterCs = record { some = omega arith; shown = refl }
-name_is_word names.SysenterEip = record { some = omega arith; shown = refl }
-name_is_word names.SysenterEsp = record { some = omega arith; shown = refl }
-name_is_word names.Star = record { some = omega arith; shown = refl }
-name_is_word names.Lstar = record { some = omega arith; shown = refl }
-name_is_word names.Cstar = record { some = omega arith; shown = refl }
-name_is_word names.Sfmask = record { some = omega arith; shown = refl }
-name_is_word names.VpAssistPage = record { some = omega arith; shown = refl }
-name_is_word names.Sint0 = record { some = omega arith; shown = refl }
-name_is_word names.Scontrol = record { some = omega arith; shown = refl }
-name_is_word names.Simp = record { some = omega arith; shown = refl }
-name_is_word names.CrInterceptControl = record { some = omega arith; shown = refl }
-name_is_word names.CrInterceptCr0Mask = record { some = omega arith; shown = refl }
-name_is_word names.CrInterceptCr4Mask = record { some = omega arith; shown = refl }
-
 -- a register's name is read again
 pub named_by-spelling : (name : Name) → named_by (spelling name) ≡ Some name
 unfolding named_by all_names
@@ -253,34 +194,6 @@ named_by-spelling names.CrInterceptControl = refl
 named_by-spelling names.CrInterceptCr0Mask = refl
 named_by-spelling names.CrInterceptCr4Mask = refl
 
--- a line's first word is a word
-pub keyword_is_word : (k : Keyword) → IsWord (keywords.spelling k)
-keyword_is_word words.Vsm = record { some = omega arith; shown = refl }
-keyword_is_word words.Vps = record { some = omega arith; shown = refl }
-keyword_is_word words.Pages = record { some = omega arith; shown = refl }
-keyword_is_word words.Budget = record { some = omega arith; shown = refl }
-keyword_is_word words.Started = record { some = omega arith; shown = refl }
-keyword_is_word words.Mask = record { some = omega arith; shown = refl }
-keyword_is_word words.Word = record { some = omega arith; shown = refl }
-keyword_is_word words.Program = record { some = omega arith; shown = refl }
-keyword_is_word words.Set = record { some = omega arith; shown = refl }
-keyword_is_word words.Get = record { some = omega arith; shown = refl }
-keyword_is_word words.Load = record { some = omega arith; shown = refl }
-keyword_is_word words.Store = record { some = omega arith; shown = refl }
-keyword_is_word words.Exec = record { some = omega arith; shown = refl }
-keyword_is_word words.Spin = record { some = omega arith; shown = refl }
-keyword_is_word words.Jump = record { some = omega arith; shown = refl }
-keyword_is_word words.JumpNe = record { some = omega arith; shown = refl }
-keyword_is_word words.Hypercall = record { some = omega arith; shown = refl }
-keyword_is_word words.VtlCall = record { some = omega arith; shown = refl }
-keyword_is_word words.VtlReturn = record { some = omega arith; shown = refl }
-keyword_is_word words.Poll = record { some = omega arith; shown = refl }
-keyword_is_word words.Ack = record { some = omega arith; shown = refl }
-keyword_is_word words.Eoi = record { some = omega arith; shown = refl }
-keyword_is_word words.Eom = record { some = omega arith; shown = refl }
-keyword_is_word words.Schedule = record { some = omega arith; shown = refl }
-keyword_is_word words.End = record { some = omega arith; shown = refl }
-
 -- a line's first word is read again
 pub keyword_of-spelling : (k : Keyword) → keyword_of (keywords.spelling k) ≡ Some k
 unfolding keyword_of all_keywords
@@ -309,3 +222,35 @@ keyword_of-spelling words.Eoi = refl
 keyword_of-spelling words.Eom = refl
 keyword_of-spelling words.Schedule = refl
 keyword_of-spelling words.End = refl
+
+-- what is found in a list passes each test that all of the list passes
+pub found : {X : Type 0} (finds test : X → Bool) (xs : List X) (x : X) → find finds xs ≡ Some x → list_all test xs ≡ true → test x ≡ true
+found finds test [] x e a = cc
+found {X} finds test (y ∷ xs) x e a = by (finds y) (test y) refl (found finds test xs x) e a
+  where
+    by : (f g : Bool) → test y ≡ g → (find finds xs ≡ Some x → list_all test xs ≡ true → test x ≡ true) → cond f (Some y) (find finds xs) ≡ Some x → g && list_all test xs ≡ true → test x ≡ true
+    by f false h more e a = cc
+    by true true h more e a = cc
+    by false true h more e a = more e a
+
+-- a word, as a test
+abbrev is_word : List ℕ → Bool
+is_word [] = false
+is_word (b ∷ word) = list_all is_shown (b ∷ word)
+
+-- what passes it is a word
+from_test : (word : List ℕ) → is_word word ≡ true → IsWord word
+from_test [] e = cc
+from_test (b ∷ word) e = record { some = omega arith; shown = e }
+
+-- a register's name is a word
+pub name_is_word : (name : Name) → IsWord (spelling name)
+unfolding named_by all_names
+name_is_word name =
+    from_test (spelling name) (found (is_spelled (spelling name)) (λ n. is_word (spelling n)) all_names name (named_by-spelling name) refl)
+
+-- a line's first word is a word
+pub keyword_is_word : (k : Keyword) → IsWord (keywords.spelling k)
+unfolding keyword_of all_keywords
+keyword_is_word k =
+    from_test (keywords.spelling k) (found (keywords.is_spelled (keywords.spelling k)) (λ n. is_word (keywords.spelling n)) all_keywords k (keyword_of-spelling k) refl)
