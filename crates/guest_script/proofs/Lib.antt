@@ -3,5 +3,14 @@ pub mod Entries
 pub mod Known
 pub mod Numerals
 pub mod Printable
+pub mod ReadBack
+pub mod ReadBackHead
+pub mod ReadBackLines
+pub mod ReadBackMemory
+pub mod ReadBackPrograms
+pub mod ReadBackSchedule
 pub mod Splits
 pub mod Spoken
+pub mod SpokenLines
+pub mod SpokenNumbers
+pub mod SpokenOps
