@@ -25,6 +25,7 @@ pub record Bound {A B : Type 0} (m : Result A Why) (f : A → Result B Why) (y :
   pub came : m ≡ Ok value
   pub rest : f value ≡ Ok y
 
+-- the parts of a step and what comes after it
 pub bound : {A B : Type 0} (m : Result A Why) (f : A → Result B Why) (y : B) → (m >>= f) ≡ Ok y → Bound m f y
 bound (Ok x) f y e = record { value = x; came = refl; rest = e }
 bound (Err why) f y e = cc
@@ -34,6 +35,12 @@ pub passed : {A : Type 0} (b : Bool) (x y : A) (why : Why) → cond b (Ok x) (Er
 passed true x y why e = (refl, cc)
 passed false x y why e = cc
 
+-- a test that was to fail, and did
+pub unmet : {A : Type 0} (b : Bool) (x y : A) (why : Why) → cond b (Err why) (Ok x) ≡ Ok y → (b ≡ false) × (x ≡ y)
+unmet true x y why e = cc
+unmet false x y why e = (refl, cc)
+
+-- both of two tests hold
 pub and_first : (a b : Bool) → a && b ≡ true → a ≡ true
 and_first true b e = refl
 and_first false b e = e
@@ -47,10 +54,11 @@ found : {A : Type 0} (b : Bool) (x y : A) → cond b (Some x) None ≡ Some y �
 found true x y e = (refl, cc)
 found false x y e = cc
 
-less : (a b : ℕ) → nat_lt a b ≡ true → a < b
+-- what a test of two numbers tells
+pub less : (a b : ℕ) → nat_lt a b ≡ true → a < b
 less a b e = grind (arith, nat_tests)
 
-no_more_than : (a b : ℕ) → nat_le a b ≡ true → a ≤ b
+pub no_more_than : (a b : ℕ) → nat_le a b ≡ true → a ≤ b
 no_more_than a b e = grind (arith, nat_tests)
 
 -- a numeral is below 2^128
@@ -60,6 +68,7 @@ numeral_below base most word n e =
     let l = less (digits_value base word) (2 ^ 128) (and_second (nat_le 1 (length word) && nat_le (length word) most && list_all (λ c. is_digit c base) word) (nat_lt (digits_value base word) (2 ^ 128)) f.0) in
     omega (arith, l, f.1)
 
+-- a word spells a number below 2^128
 number_of_below : (word : List ℕ) (n : ℕ) → number_of word ≡ Some n → n < 2 ^ 128
 unfolding number_of
 number_of_below word n e =
@@ -71,6 +80,7 @@ pub spelled_ok : {A : Type 0} (why : Why) (o : Option A) (ws : Words) (x : A × 
 spelled_ok why None ws x e = cc
 spelled_ok why (Some y) ws x e = cc
 
+-- any number is below 2^128
 pub any_number_below : (ws : Words) (n : ℕ × Words) → any_number ws ≡ Ok n → n.0 < 2 ^ 128
 unfolding any_number
 any_number_below [] n e = cc
@@ -95,6 +105,7 @@ register_ok ws name e =
     let p = passed (is_target b.value.0) b.value name BadName b.rest in
     rw p.1 at p.0
 
+-- the name of a register that set and get may name
 pub named_register_ok : (ws : Words) (name : Name × Words) → named_register ws ≡ Ok name → is_named name.0 ≡ true
 unfolding named_register
 named_register_ok ws name e =
@@ -102,6 +113,7 @@ named_register_ok ws name e =
     let p = passed (is_named b.value.0) b.value name BadName b.rest in
     rw p.1 at p.0
 
+-- a register that a store writes
 register_operand_ok : (ws : Words) (value : Operand × Words) → register_operand ws ≡ Ok value → CanWrite value.0
 unfolding register_operand
 register_operand_ok ws value e =
@@ -109,6 +121,7 @@ register_operand_ok ws value e =
     let p = passed (is_general b.value.0) (Register b.value.0, b.value.1) value BadName b.rest in
     subst (λ v. CanWrite v.0) p.1 p.0
 
+-- a number that a store writes
 number_operand_ok : (ws : Words) (value : Operand × Words) → number_operand ws ≡ Ok value → CanWrite value.0
 unfolding number_operand
 number_operand_ok ws value e =
@@ -135,6 +148,7 @@ pub record IsCounted (vps : ℕ) (t : Turns) : Type 0 where
   pub entry : IsEntry t
   pub known : t.vp.0 < vps
 
+-- an entry of these two numbers
 counted_ok : (vps : ℕ) (vp count : Option ℕ) (t : Turns) → counted vps vp count ≡ Ok t → IsCounted vps t
 counted_ok vps None count t e = cc
 counted_ok vps (Some vp) None t e = cc
@@ -148,11 +162,13 @@ counted_ok vps (Some vp) (Some count) t e =
     let is : IsCounted vps made = record { entry = record { whole = refl; some = some; few = few }; known = known } in
     subst (IsCounted vps) p.1 is
 
+-- an entry with a star at this place, or with none
 starred_ok : (vps : ℕ) (at : Option ℕ) (word : List ℕ) (t : Turns) → starred vps at word ≡ Ok t → IsCounted vps t
 starred_ok vps None word t e = counted_ok vps (numeral 10 39 word) (Some 1) t e
 starred_ok vps (Some at) word t e =
     counted_ok vps (numeral 10 39 (take at word)) (numeral 10 39 (drop (at + 1) word)) t e
 
+-- an entry
 entry_ok : (vps : ℕ) (word : List ℕ) (t : Turns) → entry vps word ≡ Ok t → IsCounted vps t
 unfolding entry
 entry_ok vps word t e = starred_ok vps (position (λ b. b == 42) word) word t e
@@ -162,6 +178,7 @@ pub record AreCounted (vps : ℕ) (turns : List Turns) : Type 0 where
   pub entries : AreEntries turns
   pub known : all_known vps turns ≡ true
 
+-- all the words as entries
 entries_ok : (vps : ℕ) (ws : Words) (turns : List Turns) → entries vps ws ≡ Ok turns → AreCounted vps turns
 unfolding entries
 entries_ok vps [] turns e =

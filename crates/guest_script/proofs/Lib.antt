@@ -2,7 +2,11 @@ pub mod Ends
 pub mod Entries
 pub mod FieldsSaid
 pub mod Known
+pub mod LinesSaid
 pub mod Numerals
+pub mod OneMore
+pub mod OpsSaid
 pub mod Printable
+pub mod Said
 pub mod Splits
 pub mod Spoken
