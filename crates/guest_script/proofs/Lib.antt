@@ -3,6 +3,7 @@ pub mod Entries
 pub mod FieldsSaid
 pub mod Known
 pub mod LinesSaid
+pub mod MadePrintable
 pub mod Numerals
 pub mod OneMore
 pub mod OpsSaid
