@@ -1,17 +1,15 @@
 -- The script that is made from a number is one that the language has.
-use Rattle.std.proofs.Common.{◌≡◌, ℕ, zero, suc, ◌+◌, ◌*◌, ◌/◌, ◌%◌, ◌^◌, ◌<◌, ◌≤◌, List, [], ◌∷◌, ◌++◌, map, length, Bool, true, false, not, cond, ◌&&◌, ◌==◌, nat_lt, refl, arith, length-append}
-use Rattle.std.specs.List.{range_with_len}
+use Rattle.std.proofs.Common.{◌≡◌, ℕ, zero, suc, ◌+◌, ◌/◌, ◌%◌, ◌^◌, ◌<◌, ◌≤◌, List, [], ◌∷◌, ◌++◌, length, Bool, true, false, not, cond, ◌&&◌, ◌==◌, nat_lt, refl, arith, length-append}
 use Rattle.vsm_base.specs.declared.name.Name.TheVariants as registers
 use Rattle.vsm_base.specs.declared.places.Page.{Page}
 use Rattle.vsm_core.specs.declared.operation.Op.{Op}
 use Rattle.vsm_core.specs.declared.operation.Op.TheVariants as ops
 use Rattle.vsm_core.specs.declared.operation.Operand.TheVariants.{Number}
-use Rattle.guest_script.specs.Made.{next_state, state_after, address_of, access_of, accesses, enabling, protecting, trying, inputs, element, made_program, made_programs, made_turns, made_words, made_schedule, made}
+use Rattle.guest_script.specs.Made.{next_state, state_after, address_of, access_of, accesses, enabling, protecting, trying, inputs, made_program, made_programs, made_turns, made_words, made_schedule, made}
 use Rattle.guest_script.specs.Within.{IsWithin}
 use Rattle.guest_script.specs.Words.{is_given}
-use Rattle.guest_script.specs.declared.script.Turns.{Turns}
 use Rattle.guest_script.proofs.FieldsSaid.{and_first, and_second, less}
-use Rattle.guest_script.proofs.Printable.{CanSay, CanSayAll, IsProgram, ArePrograms, AreWords, IsEntry, AreEntries, AreLines, IsPrintable}
+use Rattle.guest_script.proofs.Printable.{CanSay, CanSayAll, IsProgram, ArePrograms, AreWords, IsEntry, AreLines, IsPrintable}
 
 -- memory words that can be given one after another, by a test
 abbrev are_words : ℕ → List (Page × ℕ × ℕ) → List (Page × ℕ × ℕ) → Bool
@@ -23,6 +21,7 @@ not_true : (b : Bool) → not b ≡ true → b ≡ false
 not_true true e = cc
 not_true false e = refl
 
+-- the test tells so
 AreWords-from : (pages : ℕ) (before words : List (Page × ℕ × ℕ)) → are_words pages before words ≡ true → AreWords pages before words
 AreWords-from pages before [] e = tt
 AreWords-from pages before (w ∷ words) e =
@@ -66,11 +65,13 @@ can_access vp number x v n b =
     let a = address_below vp x v b in
     elim (x / 2 ^ 51 % 2 == 1) as (λ b. CanSay (cond b (ops.Store (record { 0 = address_of vp x }) (Number number)) (ops.Load registers.Rax (record { 0 = address_of vp x })))) [ true ↦ (a, n) | false ↦ (refl, a) ]
 
+-- so many accesses
 can_access_all : (vp number count x : ℕ) → vp ≤ 3 → number + count ≤ 2 ^ 64 → CanSayAll (accesses vp number count x)
 can_access_all vp number zero x v n = tt
 can_access_all vp number (suc count) x v n =
     (can_access vp number (next_state x) v (omega arith) (next_below x), can_access_all vp (number + 1) count (next_state x) v (omega arith))
 
+-- how many they are
 length-accesses : (vp number count x : ℕ) → length (accesses vp number count x) ≡ count
 length-accesses vp number zero x = refl
 length-accesses vp number (suc count) x =
@@ -92,10 +93,12 @@ can_try : CanSayAll trying
 unfolding trying
 can_try = ((refl, omega arith), ((omega arith, omega arith), tt))
 
+-- operations after others
 can_say-append : (xs ys : List Op) → CanSayAll xs → CanSayAll ys → CanSayAll (xs ++ ys)
 can_say-append [] ys a b = b
 can_say-append (x ∷ xs) ys a b = (a.0, can_say-append xs ys a.1 b)
 
+-- how many operations don't depend on the number
 length-enabling : length enabling ≡ 9
 unfolding enabling
 length-enabling = refl
@@ -108,7 +111,7 @@ length-trying : length trying ≡ 2
 unfolding trying
 length-trying = refl
 
--- the programs of a processor
+-- the programs of the first processor, of another and of any
 first_is : (n x : ℕ) → n ≤ 1000 → IsProgram (record { zero = enabling ++ accesses 0 1 n x ++ trying; one = protecting })
 first_is n x few = record {
   zero_few = simp (length-append, length-enabling, length-trying, length-accesses) (omega arith);
@@ -130,15 +133,17 @@ unfolding made_program
 program_is n vp x few v =
     elim (vp == 0) as (λ b. IsProgram (cond b (record { zero = enabling ++ accesses 0 1 n x ++ trying; one = protecting }) (record { zero = accesses vp 1 n x ++ trying; one = [] }))) [ true ↦ first_is n x few | false ↦ other_is n vp x few v ]
 
+-- the programs of so many processors
 programs_are : (n vp count x : ℕ) → n ≤ 1000 → vp + count ≤ 4 → ArePrograms (made_programs n vp count x)
 programs_are n vp zero x few v = tt
 programs_are n vp (suc count) x few v =
     (program_is n vp x few (omega arith), programs_are n (vp + 1) count (state_after n x) few (omega arith))
 
--- the schedule
+-- the entry of a processor
 turns_are : (n vp : ℕ) → n ≤ 1000 → IsEntry (made_turns n vp)
 turns_are n vp few = record { whole = refl; some = omega arith; few = omega arith }
 
+-- the one line of the schedule
 schedule_is : (n : ℕ) → n ≤ 1000 → AreLines (made_schedule n)
 unfolding made_schedule
 schedule_is n few = (omega arith, ((turns_are n 0 few, (turns_are n 1 few, (turns_are n 2 few, (turns_are n 3 few, tt)))), tt))
