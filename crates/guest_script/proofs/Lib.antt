@@ -1,7 +1,12 @@
 pub mod Ends
 pub mod Entries
+pub mod FieldsSaid
 pub mod Known
+pub mod LinesSaid
+pub mod MadePrintable
 pub mod Numerals
+pub mod OneMore
+pub mod OpsSaid
 pub mod Printable
 pub mod ReadBack
 pub mod ReadBackHead
@@ -9,6 +14,7 @@ pub mod ReadBackLines
 pub mod ReadBackMemory
 pub mod ReadBackPrograms
 pub mod ReadBackSchedule
+pub mod Said
 pub mod Splits
 pub mod Spoken
 pub mod SpokenLines
