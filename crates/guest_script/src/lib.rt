@@ -16,10 +16,15 @@ mod word_list;
 mod words;
 
 pub use maker::make;
+pub use numbers::numeral;
 pub use printer::print;
 pub use reader::{ReadError, read};
 pub use script::{Refusal, Script, Turns, Why};
 pub use tokens::{Token, next_token};
 
+#[cfg(test)]
+mod print_tests;
+#[cfg(test)]
+mod refusal_tests;
 #[cfg(test)]
 mod tests;
