@@ -169,7 +169,7 @@ budget 10\n\
 star",
     status: Status::Refused,
     text: b"\
-refused\n\
+refused line 5 unknown word\n\
 ",
 };
 

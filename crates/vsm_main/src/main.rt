@@ -1,6 +1,7 @@
-//! The program: a script in, a report out.
+//! The program: a script in, a report out; and large scripts from a number.
 #![tactic(auto)]
 
+mod command;
 mod serve;
 
 pub use serve::{Status, serve_plain, vsm};

@@ -1,9 +1,11 @@
 // The top call over streams in memory.
 use super::*;
 use crate::cases::Case;
+use guest_script::{Script, print, read};
 use std::alloc::{AllocError, Global};
 use std::test::Fail;
 use vsm_base::{MemSink, MemSource, SureSink, SureSource};
+use vsm_report::Counts;
 
 // Room for the largest text of these scripts.
 const ROOM: usize = 6300;
@@ -24,10 +26,43 @@ fn gives(alloc: Global, case: &Case) -> Result<(), Fail> {
     let mut source = MemSource::new(case.script.to_vec(alloc)?, Vec::new(alloc), 4096);
     let mut sink = MemSink::new(vec![in alloc; 0; ROOM]?, Vec::new(alloc), 4096);
     let status = traced(alloc, &mut source, &mut sink)?;
-    if status == case.status && sink.taken() == case.text {
-        return Ok(());
+    if status != case.status || sink.taken() != case.text {
+        return Err(Fail::new(format_args!("{} gives another report", case.name)));
     }
-    Err(Fail::new(format_args!("{} gives another report", case.name)))
+    if status == Status::Ok && !is_read_back(alloc, case.script)? {
+        return Err(Fail::new(format_args!("{} is not read back from its print", case.name)));
+    }
+    Ok(())
+}
+
+fn is_same(one: &Script, other: &Script) -> bool {
+    let mut programs = one
+        .programs
+        .as_slice()
+        .iter()
+        .zip(other.programs.as_slice());
+    let mut lines = one
+        .schedule
+        .as_slice()
+        .iter()
+        .zip(other.schedule.as_slice());
+    one.limits == other.limits
+        && one.started == other.started
+        && one.masks.as_slice() == other.masks.as_slice()
+        && one.words.as_slice() == other.words.as_slice()
+        && one.programs.len() == other.programs.len()
+        && programs.all(|(p, q)| {
+            p.zero.as_slice() == q.zero.as_slice() && p.one.as_slice() == q.one.as_slice()
+        })
+        && one.schedule.len() == other.schedule.len()
+        && lines.all(|(p, q)| p.as_slice() == q.as_slice())
+}
+
+// Whether what is printed of a script is read as the same script.
+fn is_read_back(alloc: Global, bytes: &[u8]) -> Result<bool, Fail> {
+    let script = read(alloc, bytes)?;
+    let again = read(alloc, &print(alloc, &script)?)?;
+    Ok(is_same(&again, &script))
 }
 
 fn each_gives(alloc: Global, group: &[Case]) -> Result<(), Fail> {
@@ -189,7 +224,11 @@ fn one_byte_over_the_limit_is_too_long(rt: HostRuntime) -> Result<(), Fail> {
     let alloc = rt.alloc();
     for (bytes, expected, text) in [
         (1_048_577, Status::TooLong, b"".as_slice()),
-        (1_048_576, Status::Refused, b"refused\n".as_slice()),
+        (
+            1_048_576,
+            Status::Refused,
+            b"refused line 1048577 cut\n".as_slice(),
+        ),
     ] {
         let mut source = MemSource::new(vec![in alloc; b'\n'; bytes]?, Vec::new(alloc), 4096);
         let mut sink = MemSink::new(vec![in alloc; 0; ROOM]?, Vec::new(alloc), 4096);
@@ -221,21 +260,133 @@ fn a_failing_sink_keeps_the_status_of_a_usage_and_of_a_refusal(
 }
 
 #[test]
-fn words_that_are_no_command_get_the_usage(rt: HostRuntime) -> Result<(), Fail> {
+fn a_script_as_long_as_may_be_is_traced(rt: HostRuntime) -> Result<(), Fail> {
     let alloc = rt.alloc();
-    let none: Vec<String> = Vec::new(alloc);
-    let mut twice = words(alloc, "trace")?;
-    twice.push(String::from_str(alloc, "trace")?)?;
-    for words in [none.as_slice(), twice.as_slice()] {
-        let mut source = MemSource::new(
-            cases::EMPTY_PROGRAM.script.to_vec(alloc)?,
-            Vec::new(alloc),
-            4096,
-        );
-        let mut sink = MemSink::new(vec![in alloc; 0; ROOM]?, Vec::new(alloc), 4096);
-        let status = vsm(&rt, alloc, words, &mut source, &mut sink);
+    let mut script = cases::EMPTY_PROGRAM.script.to_vec(alloc)?;
+    while script.len() < 1_048_576 {
+        let line = (1_048_576 - script.len()).min(1000);
+        script.extend_from_slice(b"#")?;
+        script.resize(script.len() + line - 1, b'.')?;
+        script.pop();
+        script.extend_from_slice(b"\n")?;
+    }
+    let mut source = MemSource::new(script, Vec::new(alloc), 4096);
+    let mut sink = MemSink::new(vec![in alloc; 0; ROOM]?, Vec::new(alloc), 4096);
+    assert_eq!(rt; traced(alloc, &mut source, &mut sink)?, Status::Ok);
+    assert_eq!(rt; sink.taken(), cases::EMPTY_PROGRAM.text);
+    Ok(())
+}
+
+// What the words do with a source that is left as it is.
+fn told(alloc: Global, words: &[&str], room: usize) -> Result<(Status, MemSink), Fail> {
+    let mut source = MemSource::new(b"left".to_vec(alloc)?, vec![in alloc; 1]?, 4096);
+    let mut sink = MemSink::new(vec![in alloc; 0; room]?, Vec::new(alloc), 4096);
+    let mut command = Vec::new(alloc);
+    for word in words {
+        command.push(String::from_str(alloc, word)?)?;
+    }
+    let status = serve_plain(alloc, command.as_slice(), &mut source, &mut sink);
+    if source.left() == b"left".as_slice() {
+        return Ok((status, sink));
+    }
+    Err(Fail::new(format_args!("the source was read")))
+}
+
+#[test]
+fn words_that_are_no_command_get_the_usage(rt: HostRuntime) -> Result<(), Fail> {
+    let commands: [&[&str]; 21] = [
+        &[],
+        &["traces"],
+        &["Trace"],
+        &["trace", "trace"],
+        &["trace", "1"],
+        &["make"],
+        &["sample"],
+        &["make", "0"],
+        &["sample", "0"],
+        &["make", "1001"],
+        &["sample", "1001"],
+        &["make", "01"],
+        &["sample", "01"],
+        &["make", "+1"],
+        &["make", "1x"],
+        &["make", ""],
+        &["make", "0x1"],
+        &["make", "1", "1"],
+        &["sample", "1", "1"],
+        &["run", "1"],
+        &["make", "340282366920938463463374607431768211457"],
+    ];
+    for words in commands {
+        let (status, sink) = told(rt.alloc(), words, ROOM)?;
         assert_eq!(rt; status, Status::Usage);
-        assert_eq!(rt; sink.taken(), b"usage: vsm trace\n".as_slice());
+        assert_eq!(rt;
+            sink.taken(),
+            b"usage: vsm trace|make N|sample N\n".as_slice()
+        );
+    }
+    Ok(())
+}
+
+#[test]
+fn a_made_script_is_written_and_is_read_as_the_one_that_is_run(
+    rt: HostRuntime,
+) -> Result<(), Fail> {
+    let alloc = rt.alloc();
+    let (status, sink) = told(alloc, &["make", "1"], ROOM)?;
+    assert_eq!(rt; status, Status::Ok);
+    assert!(rt;
+        sink.taken()
+            .starts_with(b"vsm 1\nvps 4\npages 64\nbudget 10000\nstarted 4\n")
+    );
+    let script = read(alloc, sink.taken())?;
+    assert_eq!(rt; print(alloc, &script)?.as_slice(), sink.taken());
+    let counts = trace(alloc, &script)?.counts();
+    let expected = Counts {
+        marks: 30,
+        granted: 8,
+        denied: 4,
+        rounds: 3,
+    };
+    assert_eq!(rt; counts, expected);
+    let (status, sink) = told(alloc, &["make", "1000"], 200_000)?;
+    assert_eq!(rt; status, Status::Ok);
+    assert!(rt;
+        sink.taken()
+            .ends_with(b"schedule 0*1040 1*1040 2*1040 3*1040\nend\n")
+    );
+    Ok(())
+}
+
+#[test]
+fn the_run_of_a_made_script_is_told_in_numbers(rt: HostRuntime) -> Result<(), Fail> {
+    let samples: [(&str, &[u8]); 2] = [
+        ("1", b"sample 1 marks 30 granted 8 denied 4 rounds 3\n"),
+        (
+            "1000",
+            b"sample 1000 marks 4026 granted 4004 denied 4 rounds 3\n",
+        ),
+    ];
+    for (n, text) in samples {
+        let (status, sink) = told(rt.alloc(), &["sample", n], ROOM)?;
+        assert_eq!(rt; status, Status::Ok);
+        assert_eq!(rt; sink.taken(), text);
+    }
+    Ok(())
+}
+
+#[test]
+fn a_failing_sink_is_told_of_a_made_script_and_of_its_run(rt: HostRuntime) -> Result<(), Fail> {
+    let fronts: [(&str, &[u8]); 2] = [("make", b"vsm"), ("sample", b"sam")];
+    for (command, front) in fronts {
+        let alloc = rt.alloc();
+        let mut source = MemSource::new(Vec::new(alloc), Vec::new(alloc), 4096);
+        let mut sink = MemSink::new(vec![in alloc; 0; ROOM]?, vec![in alloc; 2]?, 3);
+        let mut words = words(alloc, command)?;
+        words.push(String::from_str(alloc, "7")?)?;
+        let status = serve_plain(alloc, words.as_slice(), &mut source, &mut sink);
+        assert_eq!(rt; status, Status::WriteFault);
+        assert_eq!(rt; sink.taken(), front);
     }
     Ok(())
 }

@@ -1,4 +1,5 @@
 pub mod Acting
+pub mod Counts
 pub mod FlatRun
 pub mod Gathering
 pub mod Journal

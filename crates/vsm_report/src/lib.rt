@@ -1,6 +1,7 @@
 //! The report of a script's run, its text, and the runs that contracts compare it with.
 #![tactic(auto)]
 
+mod counts;
 mod digits;
 mod journal;
 mod marks;
@@ -11,6 +12,8 @@ mod text_buffer;
 mod words;
 mod writer;
 
+pub use counts::Counts;
+pub use pieces::{Piece, write_pieces};
 pub use report::{Line, Report, StepWord, Track, add_entry, add_mark};
 pub use writer::write;
 

@@ -1,6 +1,7 @@
 // Pieces of text into a buffer.
 ghost use Rattle.std.specs.Prelude.{◌≡◌};
 ghost use Rattle.std.specs.List.{flat_map};
+ghost use Rattle.vsm_base.specs.Whole.{Puts};
 ghost use Rattle.vsm_report.specs.Gathering.{Gathers};
 ghost use Rattle.vsm_report.specs.Pieces.{spelled};
 
@@ -8,7 +9,7 @@ use crate::digits;
 use crate::text_buffer::TextBuffer;
 use vsm_base::{Sink, WriteFailed};
 
-/// A piece of a line.
+/// A piece of text. The forms are this project's own.
 #[derive(Clone, Copy, Debug, PartialEq, Eq)]
 pub enum Piece<'a> {
     /// These bytes.
@@ -62,4 +63,13 @@ pub fn put_pieces<K: Sink>(
         put(sink, buffer, piece)?;
     }
     Ok(())
+}
+
+/// Writes the pieces one after another, and nothing else. It takes no memory.
+pub fn write_pieces<K: Sink>(sink: &mut K, pieces: &[Piece<'_>]) -> Result<(), WriteFailed>
+    ensures { Puts (K.taken sink.old) (K.taken sink.new) (K.faults sink.old) (K.faults sink.new) result (flat_map spelled pieces.now) }
+{
+    let mut buffer = TextBuffer::new();
+    put_pieces(sink, &mut buffer, pieces)?;
+    buffer.flush(sink)
 }
