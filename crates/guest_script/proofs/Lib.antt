@@ -1,5 +1,6 @@
 pub mod Ends
 pub mod Entries
+pub mod HexSteps
 pub mod Known
 pub mod Numerals
 pub mod Printable

@@ -1,5 +1,5 @@
 // Printing a script.
-ghost use Rattle.std.specs.Prelude.{◌≡◌, ℕ, List, ◌∷◌, [], ◌++◌, map, IfOk, OnOk, Ok, false};
+ghost use Rattle.std.specs.Prelude.{◌≡◌, ◌≤◌, ℕ, List, ◌∷◌, [], ◌++◌, map, IfOk, OnOk, Ok, false};
 ghost use Rattle.std.specs.List.{flat_map};
 ghost use Rattle.std.specs.Fmt.{digit_glyph, digits};
 ghost use Rattle.guest_script.specs.Grammar.{script};
@@ -36,14 +36,14 @@ fn hex_digit(digit: u8) -> u8
 fn hex_digits(n: u128, buffer: &mut [u8; 32]) -> &[u8]
     ensures { result.now ≡ digits 16 false n }
 {
-    let mut at = buffer.len() - 1;
+    let mut at = 31;
     let mut rest = n;
-    buffer[at] = hex_digit((rest % 16) as u8);
     while rest >= 16 {
+        buffer[at] = hex_digit((rest % 16) as u8);
         rest /= 16;
         at -= 1;
-        buffer[at] = hex_digit((rest % 16) as u8);
     }
+    buffer[at] = hex_digit(rest as u8);
     &buffer[at..]
 }
 
