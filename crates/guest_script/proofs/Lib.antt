@@ -2,6 +2,7 @@ pub mod Ends
 pub mod Entries
 pub mod HexSteps
 pub mod Known
+pub mod Mapped
 pub mod Numerals
 pub mod Printable
 pub mod Splits
