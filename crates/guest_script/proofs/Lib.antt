@@ -4,6 +4,7 @@ pub mod HexSteps
 pub mod Known
 pub mod Mapped
 pub mod Numerals
+pub mod Parts
 pub mod Printable
 pub mod Splits
 pub mod Spoken
