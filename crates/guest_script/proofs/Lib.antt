@@ -2,6 +2,7 @@ pub mod Ends
 pub mod Entries
 pub mod HexSteps
 pub mod Known
+pub mod Making
 pub mod Mapped
 pub mod Numerals
 pub mod Parts
