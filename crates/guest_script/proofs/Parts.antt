@@ -10,7 +10,7 @@ use Rattle.guest_script.specs.declared.keyword.Keyword.TheVariants as keywords
 use Rattle.guest_script.specs.declared.script.Script.{Script}
 
 -- six texts that are put one after another
-in_turn : {X : Type 0} (text : X → List ℕ) (a b c d e f : List X) (start : List ℕ) → (((((start ++ flat_map text a) ++ flat_map text b) ++ flat_map text c) ++ flat_map text d) ++ flat_map text e) ++ flat_map text f ≡ start ++ flat_map text (a ++ b ++ c ++ d ++ e ++ f)
+in_turn : {X : Type 0} (text : X → List ℕ) (a b c d e f : List X) (start : List ℕ) → start ++ flat_map text a ++ flat_map text b ++ flat_map text c ++ flat_map text d ++ flat_map text e ++ flat_map text f ≡ start ++ flat_map text (a ++ b ++ c ++ d ++ e ++ f)
 in_turn text a b c d e f start = simp (append_assoc, flat_map-append)
 
 -- what is there after each part of a script
@@ -25,5 +25,4 @@ pub record IsPut (s : Script) (start head masks words programs schedule : List �
 pub printed_whole : (s : Script) (start head masks words programs schedule : List ℕ) → IsPut s start head masks words programs schedule → schedule ++ line_text (spelling keywords.End ∷ []) ≡ start ++ printed s
 unfolding printed lines_said
 printed_whole s start head masks words programs schedule p =
-    let last : line_text (spelling keywords.End ∷ []) ≡ flat_map line_text ((spelling keywords.End ∷ []) ∷ []) = sym (append-nil (line_text (spelling keywords.End ∷ []))) in
-    ap (λ text. text ++ line_text (spelling keywords.End ∷ [])) (p.schedule_put ∙ ap (λ text. text ++ flat_map line_text (map schedule_words s.schedule)) (p.programs_put ∙ ap (λ text. text ++ flat_map line_text (programs_lines 0 s.programs)) (p.words_put ∙ ap (λ text. text ++ flat_map line_text (map word_words s.words)) (p.masks_put ∙ ap (λ text. text ++ flat_map line_text (map mask_words s.masks)) p.head_put)))) ∙ in_turn line_text (head_lines s.limits s.started) (map mask_words s.masks) (map word_words s.words) (programs_lines 0 s.programs) (map schedule_words s.schedule) ((spelling keywords.End ∷ []) ∷ []) start
+    rw (p.schedule_put, p.programs_put, p.words_put, p.masks_put, p.head_put) (in_turn line_text (head_lines s.limits s.started) (map mask_words s.masks) (map word_words s.words) (programs_lines 0 s.programs) (map schedule_words s.schedule) ((spelling keywords.End ∷ []) ∷ []) start)

@@ -1,7 +1,7 @@
 // Making a large script from a number.
-ghost use Rattle.std.specs.Prelude.{◌≡◌, ◌≤◌, ◌<◌, ◌^◌, ◌++◌, ◌==◌, if◌then◌else◌, [], ◌∷◌, IfOk, OnOk, Ok};
+ghost use Rattle.std.specs.Prelude.{◌≡◌, ◌≤◌, ◌++◌, ◌==◌, if◌then◌else◌, [], IfOk, OnOk, Ok};
 ghost use Rattle.guest_script.specs.Grammar.{script};
-ghost use Rattle.guest_script.specs.Made.{access_of, accesses, address_of, enabling as enabling_lem, inputs, made, made_program, made_programs, made_schedule, made_words, next_state, protecting as protecting_lem, state_after, trying};
+ghost use Rattle.guest_script.specs.Made.{access_of, accesses, address_of, enabling, inputs, made, made_program, made_programs, made_schedule, made_words, next_state, protecting, state_after, trying};
 ghost use Rattle.guest_script.specs.Print.{printed};
 ghost use Rattle.guest_script.specs.Within.{IsWithin};
 
@@ -107,18 +107,18 @@ fn push_accesses(ops: &mut Items<Op>, vp: u8, n: u32, x: u64) -> Result<u64, All
     Ok(state)
 }
 
-// What the first processor does before its accesses; the others do nothing.
+// What a processor does in level 0 before its accesses.
 #[tactic(auto, unfolding(crate::specs::Made::enabling))]
-fn enabling(vp: u8) -> &'static [Op]
-    ensures { result.now ≡ if vp == 0 then enabling_lem else [] }
+fn opening(vp: u8) -> &'static [Op]
+    ensures { result.now ≡ if vp == 0 then enabling else [] }
 {
     if vp == 0 { &ENABLING } else { &[] }
 }
 
-// What the first processor does in level 1.
+// What a processor does in level 1.
 #[tactic(auto, unfolding(crate::specs::Made::protecting))]
-fn protecting(vp: u8) -> &'static [Op]
-    ensures { result.now ≡ if vp == 0 then protecting_lem else [] }
+fn level_1(vp: u8) -> &'static [Op]
+    ensures { result.now ≡ if vp == 0 then protecting else [] }
 {
     if vp == 0 { &PROTECTING } else { &[] }
 }
@@ -135,11 +135,11 @@ fn program(alloc: Global, n: u32, vp: u8, x: u64) -> Result<(Program, u64), Allo
     ensures { IfOk result (λ made. made ≡ (made_program n vp x, state_after n x)) }
 {
     let mut zero = Items::new(alloc);
-    push_all(&mut zero, enabling(vp))?;
+    push_all(&mut zero, opening(vp))?;
     let state = push_accesses(&mut zero, vp, n, x)?;
     push_trying(&mut zero)?;
     let mut one = Items::new(alloc);
-    push_all(&mut one, protecting(vp))?;
+    push_all(&mut one, level_1(vp))?;
     Ok((Program { zero, one }, state))
 }
 

@@ -1,5 +1,5 @@
 // Printing a script.
-ghost use Rattle.std.specs.Prelude.{◌≡◌, ◌≤◌, ℕ, List, ◌∷◌, [], ◌++◌, map, IfOk, OnOk, Ok, false};
+ghost use Rattle.std.specs.Prelude.{◌≡◌, ◌≤◌, ℕ, List, ◌∷◌, ◌++◌, map, IfOk, OnOk, Ok, false};
 ghost use Rattle.std.specs.List.{flat_map};
 ghost use Rattle.std.specs.Fmt.{digit_glyph, digits};
 ghost use Rattle.guest_script.specs.Grammar.{script as script_lem};
@@ -259,7 +259,6 @@ fn push_schedule(text: &mut Vec<u8>, schedule: &[Items<Turns>]) -> Result<(), Al
     Ok(())
 }
 
-#[tactic(auto, unfolding(crate::specs::Print::printed, crate::specs::Print::lines_said))]
 fn push_script(text: &mut Vec<u8>, script: &Script) -> Result<(), AllocError>
     ensures { OnOk result (text.new.items ≡ text.old.items ++ printed script.now) }
 {
