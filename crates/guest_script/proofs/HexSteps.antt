@@ -47,6 +47,7 @@ pub hex_room : (at rest : ℕ) → 16 ≤ rest → rest < 16 ^ (at + 1) → 0 < 
 hex_room zero rest h l = absurd (omega arith)
 hex_room (suc at) rest h l = omega arith
 
+-- and what is left fits the places that are left
 pub hex_less : (at rest : ℕ) → 0 < at → rest < 16 ^ (at + 1) → rest / 16 < 16 ^ (at - 1 + 1)
 hex_less zero rest h l = absurd (omega arith)
 hex_less (suc at) rest h l =

@@ -1,8 +1,8 @@
 -- Making a script, step by step.
-use Rattle.std.proofs.Common.{◌≡◌, ℕ, zero, suc, ◌+◌, ◌-◌, ◌<◌, List, [], ◌∷◌, ◌++◌, Bool, true, false, cond, eqb, eqb-true, refl, sym, ap, ◌∙◌, append_assoc, arith}
+use Rattle.std.proofs.Common.{◌≡◌, ℕ, suc, ◌+◌, ◌-◌, ◌<◌, List, [], ◌∷◌, ◌++◌, Bool, true, false, cond, eqb, eqb-true, refl, sym, ap, ◌∙◌, append_assoc, arith}
 use Rattle.vsm_core.specs.declared.operation.Op.{Op}
 use Rattle.vsm_core.specs.declared.operation.Program.{Program}
-use Rattle.guest_script.specs.Made.{access_of, accesses, enabling, made_program, made_programs, next_state, protecting, state_after, trying}
+use Rattle.guest_script.specs.Made.{access_of, accesses, enabling, made_program, next_state, protecting, state_after, trying}
 
 -- an access that is put is the first of those that were to come
 pub access_put : (vp number n x : ℕ) (ops all : List Op) → number < n → ops ++ accesses vp (number + 1) (n - number) x ≡ all → (ops ++ access_of vp (number + 1) (next_state x) ∷ []) ++ accesses vp (number + 1 + 1) (n - (number + 1)) (next_state x) ≡ all
@@ -15,6 +15,7 @@ pub state_passed : (number n x last : ℕ) → number < n → state_after (n - n
 state_passed number n x last h e =
     let one : n - number ≡ suc (n - (number + 1)) = omega arith in sym (ap (λ k. state_after k x) one) ∙ e
 
+-- by whether it is the first processor
 program_by : (b : Bool) (n vp x : ℕ) → eqb vp 0 ≡ b → ◌≡◌ {A = Program} (record { zero = cond b enabling [] ++ accesses vp 1 n x ++ trying; one = cond b protecting [] }) (cond b (record { zero = enabling ++ accesses 0 1 n x ++ trying; one = protecting }) (record { zero = accesses vp 1 n x ++ trying; one = [] }))
 program_by true n vp x e = ap (λ (v : ℕ). record { zero = enabling ++ accesses v 1 n x ++ trying; one = protecting }) (eqb-true vp 0 e)
 program_by false n vp x e = refl

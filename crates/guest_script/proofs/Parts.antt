@@ -1,9 +1,7 @@
 -- The parts of a printed script, put one after another.
-use Rattle.std.proofs.Common.{◌≡◌, ℕ, List, [], ◌∷◌, ◌++◌, map, sym, ap, ◌∙◌, append_assoc}
+use Rattle.std.proofs.Common.{◌≡◌, ℕ, List, [], ◌∷◌, ◌++◌, map, append_assoc}
 use Rattle.std.specs.List.{flat_map}
 use Rattle.std.proofs.lemmas.Grind.{flat_map-append}
-use Rattle.std.proofs.lemmas.List.{append-nil}
-use Rattle.guest_script.specs.Fields.{Words}
 use Rattle.guest_script.specs.Keywords.{spelling}
 use Rattle.guest_script.specs.Print.{head_lines, line_text, lines_said, mask_words, printed, programs_lines, schedule_words, word_words}
 use Rattle.guest_script.specs.declared.keyword.Keyword.TheVariants as keywords

@@ -1,6 +1,6 @@
-use Rattle.std.proofs.Common.{◌∙◌, ◌+◌, ◌-◌, length, drop, set, ap, arith, rules}
+use Rattle.std.proofs.Common.{◌∙◌, set, arith, rules}
 use Rattle.std.proofs.lemmas.List.{length-set}
-use Rattle.guest_script.proofs.HexSteps.{written, hex_start, hex_step, hex_end, hex_room, hex_less, hex_rest}
+use Rattle.guest_script.proofs.HexSteps.{hex_start, hex_step, hex_end, hex_room, hex_less, hex_rest}
 use Rattle.guest_script.proofs.printer.hex_digits.Goals as goal
 
 pub loop-rest-init : goal.loop-rest-init

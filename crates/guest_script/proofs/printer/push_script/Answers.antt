@@ -1,4 +1,4 @@
-use Rattle.std.proofs.Common.{◌≡◌, ◌∙◌, rules}
+use Rattle.std.proofs.Common.{◌∙◌}
 use Rattle.std.proofs.lemmas.Result.{on_ok_weaker}
 use Rattle.guest_script.proofs.Parts.{IsPut, printed_whole}
 use Rattle.guest_script.proofs.printer.push_script.Goals as goal
