@@ -7,5 +7,14 @@ pub mod Mapped
 pub mod Numerals
 pub mod Parts
 pub mod Printable
+pub mod ReadBack
+pub mod ReadBackHead
+pub mod ReadBackLines
+pub mod ReadBackMemory
+pub mod ReadBackPrograms
+pub mod ReadBackSchedule
 pub mod Splits
 pub mod Spoken
+pub mod SpokenLines
+pub mod SpokenNumbers
+pub mod SpokenOps
