@@ -1,10 +1,15 @@
 pub mod Ends
 pub mod Entries
+pub mod FieldsSaid
 pub mod HexSteps
 pub mod Known
+pub mod LinesSaid
+pub mod MadePrintable
 pub mod Making
 pub mod Mapped
 pub mod Numerals
+pub mod OneMore
+pub mod OpsSaid
 pub mod Parts
 pub mod Printable
 pub mod ReadBack
@@ -13,6 +18,7 @@ pub mod ReadBackLines
 pub mod ReadBackMemory
 pub mod ReadBackPrograms
 pub mod ReadBackSchedule
+pub mod Said
 pub mod Splits
 pub mod Spoken
 pub mod SpokenLines

@@ -28,7 +28,7 @@ abbrev pub Words : Type 0
 Words = List (List ℕ)
 
 -- what a word spells, where it spells something, and the words after it
-abbrev spelled : {A : Type 0} → Why → Option A → Words → Result (A × Words) Why
+abbrev pub spelled : {A : Type 0} → Why → Option A → Words → Result (A × Words) Why
 spelled why None words = Err why
 spelled why (Some x) words = Ok (x, words)
 
@@ -105,13 +105,13 @@ no_more [] = Ok tt
 no_more (word ∷ words) = Err ExtraWord
 
 -- an entry of these two numbers, where each is in range
-abbrev counted : ℕ → Option ℕ → Option ℕ → Result Turns Why
+abbrev pub counted : ℕ → Option ℕ → Option ℕ → Result Turns Why
 counted vps None count = Err BadEntry
 counted vps (Some vp) None = Err BadEntry
 counted vps (Some vp) (Some count) = if nat_lt vp vps && nat_le 1 count && nat_le count 100000 then Ok (record { vp = record { 0 = vp }; single = false; count = count }) else Err OutOfRange
 
 -- an entry whose word has its first star here, or none
-abbrev starred : ℕ → Option ℕ → List ℕ → Result Turns Why
+abbrev pub starred : ℕ → Option ℕ → List ℕ → Result Turns Why
 starred vps None word = counted vps (numeral 10 39 word) (Some 1)
 starred vps (Some at) word = counted vps (numeral 10 39 (take at word)) (numeral 10 39 (drop (at + 1) word))
 

@@ -108,7 +108,7 @@ program_line r ws = do
   if is_begun vp.0 level.0 r.begun then Err Twice else Ok (record r { stage = stages.Program vp.0 level.0; begun = r.begun ++ (vp.0, level.0) ∷ [] })
 
 -- one more operation of the program that this stage names
-abbrev with_op_at : Stage → Reading → Op → Result Reading Why
+abbrev pub with_op_at : Stage → Reading → Op → Result Reading Why
 with_op_at (stages.Program vp level) r op =
     if nat_lt (length (operations (program_at r.programs vp) level)) 4096 then Ok (record r { programs = added r.programs vp level op }) else Err TooMany
 with_op_at _ r op = Err OutOfOrder
@@ -223,7 +223,7 @@ eom_line r ws = do
   with_op r ops.Eom
 
 -- all the words as entries, of which there is one at least
-abbrev some_entries : ℕ → Words → Result (List Turns) Why
+abbrev pub some_entries : ℕ → Words → Result (List Turns) Why
 some_entries vps [] = Err MissingWord
 some_entries vps (word ∷ ws) = entries vps (word ∷ ws)
 
