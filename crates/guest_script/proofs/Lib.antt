@@ -1,12 +1,16 @@
 pub mod Ends
 pub mod Entries
 pub mod FieldsSaid
+pub mod HexSteps
 pub mod Known
 pub mod LinesSaid
 pub mod MadePrintable
+pub mod Making
+pub mod Mapped
 pub mod Numerals
 pub mod OneMore
 pub mod OpsSaid
+pub mod Parts
 pub mod Printable
 pub mod ReadBack
 pub mod ReadBackHead

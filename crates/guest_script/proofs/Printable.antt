@@ -1,5 +1,5 @@
 -- What holds of each script that the language has.
-use Rattle.std.proofs.Common.{ℕ, ◌^◌, ◌<◌, ◌≤◌, ◌≡◌, List, [], ◌∷◌, ◌++◌, length, Bool, true, false, IsTrue}
+use Rattle.std.proofs.Common.{ℕ, ◌^◌, ◌<◌, ◌≤◌, ◌≡◌, List, [], ◌∷◌, ◌++◌, length, true, false}
 use Rattle.vsm_base.specs.Masks.{is_mask}
 use Rattle.vsm_base.specs.Names.{is_general}
 use Rattle.vsm_base.specs.declared.places.Page.{Page}

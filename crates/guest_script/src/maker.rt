@@ -1,7 +1,7 @@
 // Making a large script from a number.
-ghost use Rattle.std.specs.Prelude.{◌≡◌, ◌≤◌, ◌<◌, ◌^◌, ◌++◌, [], ◌∷◌, IfOk, OnOk, Ok};
+ghost use Rattle.std.specs.Prelude.{◌≡◌, ◌≤◌, ◌++◌, ◌==◌, if◌then◌else◌, [], IfOk, OnOk, Ok};
 ghost use Rattle.guest_script.specs.Grammar.{script};
-ghost use Rattle.guest_script.specs.Made.{access_of, accesses, address_of, made, made_program, made_programs, made_schedule, made_words, next_state, state_after};
+ghost use Rattle.guest_script.specs.Made.{access_of, accesses, address_of, enabling, inputs, made, made_program, made_programs, made_schedule, made_words, next_state, protecting, state_after, trying};
 ghost use Rattle.guest_script.specs.Print.{printed};
 ghost use Rattle.guest_script.specs.Within.{IsWithin};
 
@@ -107,18 +107,39 @@ fn push_accesses(ops: &mut Items<Op>, vp: u8, n: u32, x: u64) -> Result<u64, All
     Ok(state)
 }
 
+// What a processor does in level 0 before its accesses.
+#[tactic(auto, unfolding(crate::specs::Made::enabling))]
+fn opening(vp: u8) -> &'static [Op]
+    ensures { result.now ≡ if vp == 0 then enabling else [] }
+{
+    if vp == 0 { &ENABLING } else { &[] }
+}
+
+// What a processor does in level 1.
+#[tactic(auto, unfolding(crate::specs::Made::protecting))]
+fn level_1(vp: u8) -> &'static [Op]
+    ensures { result.now ≡ if vp == 0 then protecting else [] }
+{
+    if vp == 0 { &PROTECTING } else { &[] }
+}
+
+#[tactic(auto, unfolding(crate::specs::Made::trying))]
+fn push_trying(ops: &mut Items<Op>) -> Result<(), AllocError>
+    ensures { OnOk result (ops.new ≡ ops.old ++ trying) }
+{
+    push_all(ops, &TRYING)
+}
+
 // The programs of a processor, and the state after them.
 fn program(alloc: Global, n: u32, vp: u8, x: u64) -> Result<(Program, u64), AllocError>
     ensures { IfOk result (λ made. made ≡ (made_program n vp x, state_after n x)) }
 {
     let mut zero = Items::new(alloc);
-    let mut one = Items::new(alloc);
-    if vp == 0 {
-        push_all(&mut zero, &ENABLING)?;
-        push_all(&mut one, &PROTECTING)?;
-    }
+    push_all(&mut zero, opening(vp))?;
     let state = push_accesses(&mut zero, vp, n, x)?;
-    push_all(&mut zero, &TRYING)?;
+    push_trying(&mut zero)?;
+    let mut one = Items::new(alloc);
+    push_all(&mut one, level_1(vp))?;
     Ok((Program { zero, one }, state))
 }
 
@@ -135,11 +156,18 @@ fn programs(alloc: Global, n: u32) -> Result<Items<Program>, AllocError>
     Ok(programs)
 }
 
+#[tactic(auto, unfolding(crate::specs::Made::inputs))]
+fn push_inputs(words: &mut Items<(Page, u16, u64)>) -> Result<(), AllocError>
+    ensures { OnOk result (words.new ≡ words.old ++ inputs) }
+{
+    push_all(words, &INPUTS)
+}
+
 fn words(alloc: Global) -> Result<Items<(Page, u16, u64)>, AllocError>
     ensures { IfOk result (λ words. words ≡ made_words) }
 {
     let mut words = Items::new(alloc);
-    push_all(&mut words, &INPUTS)?;
+    push_inputs(&mut words)?;
     for i in 0..16u16 {
         words.push((Page(3), i + 2, u64::from(i) + 32))?;
     }

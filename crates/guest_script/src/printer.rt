@@ -1,8 +1,9 @@
 // Printing a script.
-ghost use Rattle.std.specs.Prelude.{◌≡◌, ℕ, List, ◌∷◌, [], ◌++◌, map, IfOk, OnOk, Ok, false};
+ghost use Rattle.std.specs.Prelude.{◌≡◌, ◌≤◌, ℕ, List, ◌∷◌, [], ◌++◌, map, IfOk, OnOk, Ok, false};
 ghost use Rattle.std.specs.List.{flat_map};
-ghost use Rattle.std.specs.Fmt.{digit_glyph, digits};
-ghost use Rattle.guest_script.specs.Grammar.{script};
+ghost use Rattle.std.specs.Fmt.{decimal, digit_glyph, digits};
+ghost use Rattle.guest_script.specs.Grammar.{script as script_lem};
+ghost use Rattle.guest_script.specs.Keywords.{spelling};
 ghost use Rattle.guest_script.specs.Print.{entry_word, head_lines, hex, level_lines, line_text, mask_words, op_words, operand_word, printed, program_lines, programs_lines, schedule_words, word_words};
 ghost use Rattle.guest_script.specs.Printing.{spelled};
 
@@ -36,14 +37,14 @@ fn hex_digit(digit: u8) -> u8
 fn hex_digits(n: u128, buffer: &mut [u8; 32]) -> &[u8]
     ensures { result.now ≡ digits 16 false n }
 {
-    let mut at = buffer.len() - 1;
+    let mut at = 31;
     let mut rest = n;
-    buffer[at] = hex_digit((rest % 16) as u8);
     while rest >= 16 {
+        buffer[at] = hex_digit((rest % 16) as u8);
         rest /= 16;
         at -= 1;
-        buffer[at] = hex_digit((rest % 16) as u8);
     }
+    buffer[at] = hex_digit(rest as u8);
     &buffer[at..]
 }
 
@@ -134,30 +135,21 @@ fn push_op(text: &mut Vec<u8>, op: &Op) -> Result<(), AllocError>
     }
 }
 
+// A line of a word of the language and a number.
+fn push_number(text: &mut Vec<u8>, first: Keyword, n: u64) -> Result<(), AllocError>
+    ensures { OnOk result (text.new.items ≡ text.old.items ++ line_text (spelling first ∷ decimal n ∷ [])) }
+{
+    push_line(text, first.text(), &[Word::Decimal(n)])
+}
+
 fn push_head(text: &mut Vec<u8>, limits: &Limits, started: u8) -> Result<(), AllocError>
     ensures { OnOk result (text.new.items ≡ text.old.items ++ flat_map line_text (head_lines limits.now started)) }
 {
-    push_line(text, Keyword::Vsm.text(), &[Word::Decimal(1)])?;
-    push_line(
-        text,
-        Keyword::Vps.text(),
-        &[Word::Decimal(u64::from(limits.vps))],
-    )?;
-    push_line(
-        text,
-        Keyword::Pages.text(),
-        &[Word::Decimal(u64::from(limits.pages))],
-    )?;
-    push_line(
-        text,
-        Keyword::Budget.text(),
-        &[Word::Decimal(u64::from(limits.budget))],
-    )?;
-    push_line(
-        text,
-        Keyword::Started.text(),
-        &[Word::Decimal(u64::from(started))],
-    )
+    push_number(text, Keyword::Vsm, 1)?;
+    push_number(text, Keyword::Vps, u64::from(limits.vps))?;
+    push_number(text, Keyword::Pages, u64::from(limits.pages))?;
+    push_number(text, Keyword::Budget, u64::from(limits.budget))?;
+    push_number(text, Keyword::Started, u64::from(started))
 }
 
 fn push_masks(text: &mut Vec<u8>, masks: &[(Page, Mask)]) -> Result<(), AllocError>
@@ -279,7 +271,7 @@ fn push_script(text: &mut Vec<u8>, script: &Script) -> Result<(), AllocError>
 /// `Memory` where there was no memory.
 pub fn print(alloc: Global, script: &Script) -> Result<Vec<u8>, Memory>
     ensures text { IfOk result (λ text. text.items ≡ printed script.now) }
-    ensures reads_back { (bytes : List ℕ) → script bytes ≡ Ok script.now → script (printed script.now) ≡ Ok script.now }
+    ensures reads_back { (bytes : List ℕ) → script_lem bytes ≡ Ok script.now → script_lem (printed script.now) ≡ Ok script.now }
 {
     let mut text = Vec::new(alloc);
     push_script(&mut text, script)?;

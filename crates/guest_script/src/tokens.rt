@@ -15,7 +15,8 @@ pub struct Token<'a> {
 }
 
 fn spaces(bytes: &[u8]) -> usize
-    ensures { result ≡ prefix_len is_space bytes.now }
+    ensures value { result ≡ prefix_len is_space bytes.now }
+    ensures within { result ≤ length bytes.now }
 {
     for (at, byte) in bytes.iter().enumerate() {
         if *byte != b' ' {
@@ -26,7 +27,8 @@ fn spaces(bytes: &[u8]) -> usize
 }
 
 fn word_bytes(bytes: &[u8]) -> usize
-    ensures { result ≡ prefix_len is_of_word bytes.now }
+    ensures value { result ≡ prefix_len is_of_word bytes.now }
+    ensures within { result ≤ length bytes.now }
 {
     for (at, byte) in bytes.iter().enumerate() {
         if *byte == b' ' || *byte == b'\n' {
