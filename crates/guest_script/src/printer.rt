@@ -2,7 +2,7 @@
 ghost use Rattle.std.specs.Prelude.{◌≡◌, ◌≤◌, ℕ, List, ◌∷◌, [], ◌++◌, map, IfOk, OnOk, Ok, false};
 ghost use Rattle.std.specs.List.{flat_map};
 ghost use Rattle.std.specs.Fmt.{decimal, digit_glyph, digits};
-ghost use Rattle.guest_script.specs.Grammar.{script as script_lem};
+ghost use Rattle.guest_script.specs.Grammar.{script as script_of_bytes};
 ghost use Rattle.guest_script.specs.Keywords.{spelling};
 ghost use Rattle.guest_script.specs.Print.{entry_word, head_lines, hex, level_lines, line_text, mask_words, op_words, operand_word, printed, program_lines, programs_lines, schedule_words, word_words};
 ghost use Rattle.guest_script.specs.Printing.{spelled};
@@ -271,7 +271,7 @@ fn push_script(text: &mut Vec<u8>, script: &Script) -> Result<(), AllocError>
 /// `Memory` where there was no memory.
 pub fn print(alloc: Global, script: &Script) -> Result<Vec<u8>, Memory>
     ensures text { IfOk result (λ text. text.items ≡ printed script.now) }
-    ensures reads_back { (bytes : List ℕ) → script_lem bytes ≡ Ok script.now → script_lem (printed script.now) ≡ Ok script.now }
+    ensures reads_back { (bytes : List ℕ) → script_of_bytes bytes ≡ Ok script.now → script_of_bytes (printed script.now) ≡ Ok script.now }
 {
     let mut text = Vec::new(alloc);
     push_script(&mut text, script)?;

@@ -236,70 +236,8 @@ schedule 7 0*3\nschedule 6*100\nend\n";
 }
 
 #[test]
-fn a_line_in_a_program_is_refused_with_its_cause(rt: HostRuntime) -> Result<(), Fail> {
-    let lines: [(&[u8], Why); 56] = [
-        (b"exec", Why::MissingWord),
-        (b"exec Rax", Why::BadNumber),
-        (b"exec 18446744073709551616", Why::OutOfRange),
-        (b"exec 8 0", Why::ExtraWord),
-        (b"spin", Why::MissingWord),
-        (b"spin 8", Why::MissingWord),
-        (b"spin Rax 8", Why::BadNumber),
-        (b"spin 8 Rax", Why::BadNumber),
-        (b"spin 18446744073709551616 Rax", Why::OutOfRange),
-        (b"spin 8 18446744073709551616", Why::OutOfRange),
-        (b"spin 8 0 0", Why::ExtraWord),
-        (b"jump", Why::MissingWord),
-        (b"jump Rax", Why::BadNumber),
-        (b"jump 18446744073709551616", Why::OutOfRange),
-        (b"jump 0 0", Why::ExtraWord),
-        (b"jumpne", Why::MissingWord),
-        (b"jumpne Rax", Why::MissingWord),
-        (b"jumpne Rax 0", Why::MissingWord),
-        (b"jumpne 0 Rax 0", Why::BadName),
-        (b"jumpne Rip 0 0", Why::BadName),
-        (b"jumpne Cr0 0 0", Why::BadName),
-        (b"jumpne Rax Rbx 0", Why::BadNumber),
-        (b"jumpne Rax 0 Rbx", Why::BadNumber),
-        (b"jumpne Rax 18446744073709551616 0", Why::OutOfRange),
-        (b"jumpne Rax 0 18446744073709551616", Why::OutOfRange),
-        (b"jumpne Rax 0 0 0", Why::ExtraWord),
-        (b"jumpeq Rax 0 0", Why::UnknownWord),
-        (b"hypercall 13", Why::ExtraWord),
-        (b"hypercal", Why::UnknownWord),
-        (b"vtlcall 0", Why::ExtraWord),
-        (b"vtlreturn 1 1", Why::ExtraWord),
-        (b"VtlCall", Why::UnknownWord),
-        (b"vtlret", Why::UnknownWord),
-        (b"poll x", Why::ExtraWord),
-        (b"eoi 0", Why::ExtraWord),
-        (b"eom eom", Why::ExtraWord),
-        (b"ack", Why::MissingWord),
-        (b"ack Cr0", Why::BadName),
-        (b"ack Rip", Why::BadName),
-        (b"ack 7", Why::BadName),
-        (b"ack rax", Why::BadName),
-        (b"ack Rax Rbx", Why::ExtraWord),
-        (b"ack Cr0 Rbx", Why::BadName),
-        (b"Poll", Why::UnknownWord),
-        (b"eo", Why::UnknownWord),
-        (b"set Rip 0", Why::BadName),
-        (b"program 1 0", Why::Twice),
-        (b"program 2 0", Why::OutOfRange),
-        (b"program 0 2", Why::OutOfRange),
-        (b"program 2 1", Why::OutOfRange),
-        (b"program 0", Why::MissingWord),
-        (b"program 0 one", Why::BadNumber),
-        (b"program 0 1 0", Why::ExtraWord),
-        (b"schedule 0 1*2 2", Why::OutOfRange),
-        (b"schedule 0 1! 1", Why::BadEntry),
-        (b"vps 2", Why::OutOfOrder),
-    ];
-    for (line, why) in lines {
-        let answer = next_in_program(rt.alloc(), line);
-        assert_eq!(rt; answer, Err(LineError::Refused(why)));
-    }
-    let good: [&[u8]; 12] = [
+fn a_program_may_be_followed_by_operations_programs_and_turns(rt: HostRuntime) -> Result<(), Fail> {
+    let good: [&[u8]; 14] = [
         b"jumpne Rsp 0 0",
         b"hypercall",
         b"vtlcall",
@@ -312,6 +250,8 @@ fn a_line_in_a_program_is_refused_with_its_cause(rt: HostRuntime) -> Result<(), 
         b"program 0 1",
         b"program 1 1",
         b"schedule 0 1*2 1",
+        b"",
+        b" # what comes next",
     ];
     for line in good {
         assert_eq!(rt; next_in_program(rt.alloc(), line), Ok(()));
