@@ -1,11 +1,12 @@
 #!/usr/bin/env python3
-"""Measures the proved program on the largest scripts that the language allows, and on half of each.
+"""Measures the proved program on the largest inputs that it takes, and on half of each.
 
 Usage, at the top of the repository, after `(cd crates/vsm_main && rt run -- trace < ../../examples/...)` has built the
 program: `python3 bench/run.py [PROGRAM]`. It makes its scripts in a temporary folder and prints one line a case: the
-size of the script, the size of the report, the best time of five runs and the peak memory.
+size of the input, the size of the output, the best time of five runs and the peak memory.
 """
 import os
+import subprocess
 import sys
 import tempfile
 import time
@@ -75,41 +76,72 @@ def rounds(turns):
     return "\n".join(head + bodies + lines + ["end"]) + "\n"
 
 
+LIMIT = 1_048_576
+
+
+def full_of_words(last):
+    """A script of exactly as many bytes as may be, of word lines but for its head and its end."""
+    head = "vsm 1\nvps 1\npages 256\nbudget 1\nstarted 1\n"
+    lines, size, k = [], len(head) + len(last) + 1, 0
+    while True:
+        line = f"word {k // 512} {k % 512} {k + 1:#x}\n"
+        if size + len(line) > LIMIT:
+            break
+        lines.append(line)
+        size += len(line)
+        k += 1
+    return head + "".join(lines) + "#" * (LIMIT - size) + "\n" + last
+
+
+def made(n):
+    """What the program makes of a number."""
+    return subprocess.run([PROGRAM, "make", str(n)], check=True, capture_output=True, text=True).stdout
+
+
+# A name, the words of the command line, the input, and the status that it is to end with.
 CASES = [
-    ("walks, 8 processors, 80,000 turns", walks(8, 80_000)),
-    ("walks, 8 processors, 40,000 turns", walks(8, 40_000)),
-    ("walks, 1 processor, 10,000 turns", walks(1, 10_000)),
-    ("walks, an entry a turn, 80,000 turns", in_turns(8, 80_000)),
-    ("walks, an entry a turn, 40,000 turns", in_turns(8, 40_000)),
-    ("spins in vain, 100,000 turns", spins(100_000)),
-    ("spins in vain, 50,000 turns", spins(50_000)),
-    ("rounds over 256 pages, 8 processors, 10,000 turns each", rounds(10_000)),
-    ("rounds over 256 pages, 8 processors, 5,000 turns each", rounds(5_000)),
-    ("50,000 words", words(50_000)),
-    ("25,000 words", words(25_000)),
+    ("walks, 8 processors, 80,000 turns", ["trace"], walks(8, 80_000), 0),
+    ("walks, 8 processors, 40,000 turns", ["trace"], walks(8, 40_000), 0),
+    ("walks, 1 processor, 10,000 turns", ["trace"], walks(1, 10_000), 0),
+    ("walks, an entry a turn, 80,000 turns", ["trace"], in_turns(8, 80_000), 0),
+    ("walks, an entry a turn, 40,000 turns", ["trace"], in_turns(8, 40_000), 0),
+    ("spins in vain, 100,000 turns", ["trace"], spins(100_000), 0),
+    ("spins in vain, 50,000 turns", ["trace"], spins(50_000), 0),
+    ("rounds over 256 pages, 8 processors, 10,000 turns each", ["trace"], rounds(10_000), 0),
+    ("rounds over 256 pages, 8 processors, 5,000 turns each", ["trace"], rounds(5_000), 0),
+    ("50,000 words", ["trace"], words(50_000), 0),
+    ("25,000 words", ["trace"], words(25_000), 0),
+    ("make 1000", ["make", "1000"], "", 0),
+    ("make 500", ["make", "500"], "", 0),
+    ("trace of make 1000", ["trace"], made(1000), 0),
+    ("trace of make 500", ["trace"], made(500), 0),
+    ("sample 1000", ["sample", "1000"], "", 0),
+    ("sample 500", ["sample", "500"], "", 0),
+    ("word lines up to the limit", ["trace"], full_of_words("end\n"), 0),
+    ("word lines up to the limit, the last line refused", ["trace"], full_of_words("ends\n"), 2),
 ]
 
 
-def run(path, out):
+def run(words, path, out, wanted):
     """Runs the program once, and tells its time in seconds and its peak memory in KiB."""
     begin = time.perf_counter()
     pid = os.fork()
     if pid == 0:
         os.dup2(os.open(path, os.O_RDONLY), 0)
         os.dup2(os.open(out, os.O_WRONLY | os.O_CREAT | os.O_TRUNC, 0o644), 1)
-        os.execv(PROGRAM, [PROGRAM, "trace"])
+        os.execv(PROGRAM, [PROGRAM] + words)
     _, status, usage = os.wait4(pid, 0)
     seconds = time.perf_counter() - begin
-    if status != 0:
-        sys.exit(f"{PROGRAM} ended with {os.waitstatus_to_exitcode(status)} on {path}")
+    if os.waitstatus_to_exitcode(status) != wanted:
+        sys.exit(f"{PROGRAM} {' '.join(words)} ended with {os.waitstatus_to_exitcode(status)} on {path}")
     return seconds, usage.ru_maxrss
 
 
 with tempfile.TemporaryDirectory() as folder:
-    for name, text in CASES:
+    for name, words, text, wanted in CASES:
         path, out = os.path.join(folder, "script"), os.path.join(folder, "report")
         with open(path, "w") as file:
             file.write(text)
-        runs = [run(path, out) for _ in range(RUNS)]
+        runs = [run(words, path, out, wanted) for _ in range(RUNS)]
         seconds, peak = min(r[0] for r in runs), max(r[1] for r in runs)
-        print(f"{name}: script {len(text):,} bytes, report {os.path.getsize(out):,} bytes, {seconds:.3f} s, {peak / 1024:.1f} MiB")
+        print(f"{name}: input {len(text):,} bytes, output {os.path.getsize(out):,} bytes, {seconds:.3f} s, {peak / 1024:.1f} MiB")
