@@ -263,13 +263,12 @@ fn a_failing_sink_keeps_the_status_of_a_usage_and_of_a_refusal(
 fn a_script_as_long_as_may_be_is_traced(rt: HostRuntime) -> Result<(), Fail> {
     let alloc = rt.alloc();
     let mut script = cases::EMPTY_PROGRAM.script.to_vec(alloc)?;
-    while script.len() < 1_048_576 {
-        let line = (1_048_576 - script.len()).min(1000);
-        script.extend_from_slice(b"#")?;
-        script.resize(script.len() + line - 1, b'.')?;
-        script.pop();
+    let comment = vec![in alloc; b'#'; 262_132]?;
+    for _ in 0..4 {
+        script.extend_from_slice(comment.as_slice())?;
         script.extend_from_slice(b"\n")?;
     }
+    assert_eq!(rt; script.len(), 1_048_576);
     let mut source = MemSource::new(script, Vec::new(alloc), 4096);
     let mut sink = MemSink::new(vec![in alloc; 0; ROOM]?, Vec::new(alloc), 4096);
     assert_eq!(rt; traced(alloc, &mut source, &mut sink)?, Status::Ok);
