@@ -3,7 +3,8 @@
 
 Usage, at the top of the repository, after `(cd crates/vsm_main && rt run -- trace < ../../examples/...)` has built the
 program: `python3 bench/run.py [PROGRAM]`. It makes its scripts in a temporary folder and prints one line a case: the
-size of the input, the size of the output, the best time of five runs and the peak memory.
+size of the input, the size of the output, the best time of five runs and the peak memory. A peak below this script's own,
+about 18 MiB, isn't seen: the system counts it to the program that it starts.
 """
 import os
 import subprocess
