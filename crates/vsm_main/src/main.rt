@@ -21,6 +21,8 @@ mod intercept_cases;
 #[cfg(test)]
 mod interrupt_cases;
 #[cfg(test)]
+mod interrupted_sets;
+#[cfg(test)]
 mod malformed_calls;
 #[cfg(test)]
 mod name_cases;

@@ -134,6 +134,30 @@ fn scripts_of_interrupts_give_their_reports(rt: HostRuntime) -> Result<(), Fail>
 }
 
 #[test]
+fn an_interrupt_comes_to_each_set_of_eight_processors_and_to_no_other(
+    rt: HostRuntime,
+) -> Result<(), Fail> {
+    let alloc = rt.alloc();
+    let calls = [
+        interrupted_sets::AT_LEVEL_0,
+        interrupted_sets::FROM_LEVEL_1,
+        interrupted_sets::AT_LEVEL_1,
+    ];
+    for call in calls {
+        for set in 0..=255u8 {
+            let script = interrupted_sets::script(alloc, &call, set)?;
+            let report = interrupted_sets::report(alloc, &call, set)?;
+            let mut source = MemSource::new(script, Vec::new(alloc), 4096);
+            let mut sink = MemSink::new(vec![in alloc; 0; ROOM]?, Vec::new(alloc), 4096);
+            let status = traced(alloc, &mut source, &mut sink)?;
+            assert_eq!(rt; status, Status::Ok, "{}, set {set}", call.name);
+            assert_eq!(rt; sink.taken(), report.as_slice(), "{}, set {set}", call.name);
+        }
+    }
+    Ok(())
+}
+
+#[test]
 fn each_malformed_call_gets_the_status_that_says_why(rt: HostRuntime) -> Result<(), Fail> {
     let alloc = rt.alloc();
     for call in malformed_calls::MALFORMED_CALLS {
