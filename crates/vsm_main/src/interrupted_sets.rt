@@ -1,8 +1,19 @@
 // Calls that interrupt a set of eight processors, and what each processor then finds.
+ghost use Rattle.std.specs.Prelude.{◌<◌};
+
 use std::alloc::{AllocError, Global};
 
+/// What a processor finds, as lines of a report. P stands for its number.
+#[derive(Clone, Copy)]
+pub struct Found {
+    /// Where the call names it.
+    pub named: &'static [u8],
+    /// Where it doesn't.
+    pub passed_over: &'static [u8],
+}
+
 /// A call for the vector 0x40 by processor 0, with the script around the number of its set, and the report as it was
-/// worked out by hand. Where it says P, the number of a processor stands.
+/// worked out apart from the program.
 #[derive(Clone, Copy)]
 pub struct CallToSet {
     pub name: &'static str,
@@ -10,21 +21,21 @@ pub struct CallToSet {
     pub head: &'static [u8],
     /// The lines from the call to the programs of the seven others.
     pub call: &'static [u8],
-    /// The programs of one of the others.
+    /// The programs of one of the others. P stands for its number.
     pub program: &'static [u8],
     pub schedule: &'static [u8],
     /// The lines of the report up to the call's.
     pub marks: &'static [u8],
-    /// What the caller finds where it is in the set, and where it isn't.
-    pub caller: [&'static [u8]; 2],
-    /// The same of each of the others.
-    pub other: [&'static [u8]; 2],
+    /// What the caller finds.
+    pub caller: Found,
+    /// What each of the others finds.
+    pub other: Found,
 }
 
-const OTHER_AT_LEVEL_0: [&[u8]; 2] = [
-    b"P.0 0 poll ok\nP.0 1 ack Rbx 0x0000000000000040\n",
-    b"P.0 0 poll ok\nP.0 1 ack Rbx 0x0000000000000000\n",
-];
+const OTHER_AT_LEVEL_0: Found = Found {
+    named: b"P.0 0 poll ok\nP.0 1 ack Rbx 0x0000000000000040\n",
+    passed_over: b"P.0 0 poll ok\nP.0 1 ack Rbx 0x0000000000000000\n",
+};
 
 pub const AT_LEVEL_0: CallToSet = CallToSet {
     name: "level 0 of processors by level 0",
@@ -35,10 +46,10 @@ vsm 1\nvps 8\npages 1\nbudget 90\nstarted 8\nprogram 0 0\nset Rcx 0x1000b\nset R
     schedule: b"schedule 0*6 1*2 2*2 3*2 4*2 5*2 6*2 7*2\nend\n",
     marks: b"\
 vsm-report 1 trace\n0.0 0 set Rcx ok\n0.0 1 set Rdx ok\n0.0 2 set R8 ok\n0.0 3 hypercall done 0x0000000000000000\n",
-    caller: [
-        b"0.0 4 poll ok\n0.0 5 ack Rbx 0x0000000000000040\n",
-        b"0.0 4 poll ok\n0.0 5 ack Rbx 0x0000000000000000\n",
-    ],
+    caller: Found {
+        named: b"0.0 4 poll ok\n0.0 5 ack Rbx 0x0000000000000040\n",
+        passed_over: b"0.0 4 poll ok\n0.0 5 ack Rbx 0x0000000000000000\n",
+    },
     other: OTHER_AT_LEVEL_0,
 };
 
@@ -56,10 +67,10 @@ vsm-report 1 trace\n0.0 0 set Rcx ok\n0.0 1 set Rdx ok\n0.0 2 set R8 ok\nj enabl
 0.0 3 hypercall done 0x0000000000000000\n0.0 4 set Rcx ok\n0.0 5 set Rdx ok\nj level 0 0\n\
 0.0 6 hypercall done 0x0000000000000000\n0.0 7 set Rcx ok\n0.0 8 vtlcall ok\n0.1 0 set Rcx ok\n0.1 1 set Rdx ok\n\
 0.1 2 set R8 ok\n0.1 3 hypercall done 0x0000000000000000\n0.1 4 set Rcx ok\n0.1 5 vtlreturn ok\n",
-    caller: [
-        b"0.0 9 poll ok\n0.0 10 ack Rbx 0x0000000000000040\n",
-        b"0.0 9 poll ok\n0.0 10 ack Rbx 0x0000000000000000\n",
-    ],
+    caller: Found {
+        named: b"0.0 9 poll ok\n0.0 10 ack Rbx 0x0000000000000040\n",
+        passed_over: b"0.0 9 poll ok\n0.0 10 ack Rbx 0x0000000000000000\n",
+    },
     other: OTHER_AT_LEVEL_0,
 };
 
@@ -101,21 +112,23 @@ j start 0 1 0\n0.1 17 hypercall done 0x0000000000000000\n0.1 18 set Rdx ok\nj st
 3.0 0 start ok\nj fetch 4\n4.0 0 start ok\nj fetch 5\n5.0 0 start ok\nj fetch 6\n6.0 0 start ok\nj fetch 7\n\
 7.0 0 start ok\n0.1 30 set Rcx ok\n0.1 31 set Rdx ok\n0.1 32 set R8 ok\n0.1 33 hypercall done 0x0000000000000000\n\
 0.1 34 set Rcx ok\n0.1 35 vtlreturn ok\n",
-    caller: [
-        b"0.0 9 poll enter\n0.1 36 ack Rbx 0x0000000000000040\n",
-        b"0.0 9 poll ok\n0.0 10 ack Rbx 0x0000000000000000\n",
-    ],
-    other: [
-        b"P.0 0 poll enter\nP.1 0 ack Rbx 0x0000000000000040\n",
-        b"P.0 0 poll ok\nP.0 1 ack Rbx 0x0000000000000000\n",
-    ],
+    caller: Found {
+        named: b"0.0 9 poll enter\n0.1 36 ack Rbx 0x0000000000000040\n",
+        passed_over: b"0.0 9 poll ok\n0.0 10 ack Rbx 0x0000000000000000\n",
+    },
+    other: Found {
+        named: b"P.0 0 poll enter\nP.1 0 ack Rbx 0x0000000000000040\n",
+        passed_over: b"P.0 0 poll ok\nP.0 1 ack Rbx 0x0000000000000000\n",
+    },
 };
 
-// Appends the lines of one processor, below 10.
-fn put(text: &mut Vec<u8>, lines: &[u8], processor: u8) -> Result<(), AllocError> {
+// Appends the lines of one processor.
+fn put(text: &mut Vec<u8>, lines: &[u8], processor: u8) -> Result<(), AllocError>
+    requires { processor < 10 }
+{
     for byte in lines {
         text.push(if *byte == b'P' {
-            b'0' + processor % 10
+            b'0' + processor
         } else {
             *byte
         })?;
@@ -141,17 +154,17 @@ pub fn script(alloc: Global, call: &CallToSet, set: u8) -> Result<Vec<u8>, Alloc
 pub fn report(alloc: Global, call: &CallToSet, set: u8) -> Result<Vec<u8>, AllocError> {
     let mut text = call.marks.to_vec(alloc)?;
     for processor in 0..8u8 {
-        let [named, passed_over] = if processor == 0 {
+        let found = if processor == 0 {
             call.caller
         } else {
             call.other
         };
-        let is_named = set >> processor & 1 == 1;
-        put(
-            &mut text,
-            if is_named { named } else { passed_over },
-            processor,
-        )?;
+        let lines = if (set >> processor) % 2 == 1 {
+            found.named
+        } else {
+            found.passed_over
+        };
+        put(&mut text, lines, processor)?;
     }
     for processor in 0..8u8 {
         put(&mut text, b"end P done\n", processor)?;
