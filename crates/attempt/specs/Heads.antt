@@ -1,0 +1,17 @@
+-- What comes next of a tree.
+use Rattle.std.specs.Prelude.{◌≡◌}
+use Rattle.vsm_core.specs.Outcomes.{Origin, Outcome}
+use Rattle.vsm_core.specs.Tree.{Tree, Ends, Asks, Wants}
+use Rattle.attempt.specs.declared.stage.Next.{Next}
+use Rattle.attempt.specs.declared.stage.Next.TheVariants.{Ask, Want, End}
+use Rattle.attempt.specs.declared.under.Under.{Under}
+use Rattle.attempt.specs.Asked.{word_step}
+use Rattle.attempt.specs.Calls.{request_for}
+use Rattle.attempt.specs.Results.{result_of}
+
+-- the tree begins with this
+abbrev pub IsHeadOf : Origin → Under → Tree Outcome → Next → Type 0
+IsHeadOf from u (Asks s k) (Ask step) = s ≡ word_step step
+IsHeadOf from u (Wants q k) (Want asked) = q ≡ request_for from u asked
+IsHeadOf from u (Ends o) End = o ≡ result_of from u
+IsHeadOf from u _ _ = ⊥

@@ -1,0 +1,15 @@
+pub mod Asked
+pub mod Calls
+pub mod Comings
+pub mod Heads
+pub mod Nexts
+pub mod Paths
+pub mod Plans
+pub mod Rests
+pub mod Results
+pub mod Sends
+pub mod Slices
+pub mod States
+pub mod Unders
+pub mod Views
+pub mod Words

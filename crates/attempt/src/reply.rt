@@ -1,0 +1,99 @@
+// How a hypercall goes on by the reply to its request.
+ghost use Rattle.std.specs.Prelude.{◌≡◌, ◌+◌, ◌<◌, ◌≤◌, take, []};
+ghost use Rattle.vsm_core.specs.Hypercalls.{replied};
+ghost use Rattle.vsm_core.specs.RegisterCalls.{slice_outcome, count_of};
+ghost use Rattle.vsm_core.specs.Reps.{replied_end};
+ghost use Rattle.vsm_core.specs.Tree.{Ends};
+ghost use Rattle.attempt.specs.Calls.{by_answer, looked_at, AskedIs};
+ghost use Rattle.attempt.specs.Rests.{rest_of, StageIs};
+ghost use Rattle.attempt.specs.Views.{origin_of};
+
+use crate::decided::Decided;
+use crate::input::Asked;
+use crate::plans::put_words;
+use crate::site::Site;
+use crate::stage::{Inner, Stage};
+use crate::state::VpState;
+use crate::under::Under;
+use hyper_abi::ResultValue;
+use vsm_base::HvStatus;
+use vsm_core::Reply;
+
+impl VpState {
+    /// A slice of pages is served: the call is refused at an element, goes on at one, or is complete.
+    fn slice_served(&self, under: &mut Under, reply: &Reply)
+        requires { reply.now.done < 4096 }
+        ensures rest { rest_of (origin_of self.now) under.new ≡ Ends (slice_outcome (origin_of self.now) self.now.state [] (replied_end reply.now.status reply.now.done (count_of (origin_of self.now)))) }
+        ensures is { StageIs (origin_of self.now) under.new }
+        ensures op { under.new.op ≡ under.old.op }
+    {
+        let (_, count) = self.elements();
+        let status = reply.status;
+        let done = reply.done;
+        if status == HvStatus::SUCCESS && done < count {
+            under.end(Decided::Part(done));
+        } else {
+            under.end(Decided::Replied(ResultValue { status, done }.bits()));
+        }
+    }
+
+    /// The call is served: where it enables a level, the reply has that level's context.
+    fn served(&self, under: &mut Under, reply: &Reply)
+        requires { reply.now.done < 4096 }
+        ensures rest { rest_of (origin_of self.now) under.new ≡ Ends (replied (origin_of self.now) reply.now) }
+        ensures is { StageIs (origin_of self.now) under.new }
+        ensures op { under.new.op ≡ under.old.op }
+    {
+        let status = reply.status;
+        let done = reply.done;
+        let value = ResultValue { status, done }.bits();
+        match &reply.context {
+            Some(context) => {
+                under.header[..28].copy_from_slice(&context.1);
+                under.end(Decided::Enabled(context.0, value));
+            }
+            None => under.end(Decided::Replied(value)),
+        }
+    }
+
+    /// The value of the partition's register goes out to this place in the page of the output, in an access of its own.
+    fn put_value(&self, under: &mut Under, at: (Site, u16), reply: &Reply)
+        requires done { reply.now.done < 4096 }
+        requires room { at.1 + 2 ≤ 512 }
+        ensures rest { rest_of (origin_of self.now) under.new ≡ looked_at (origin_of self.now) at.0 at.1 reply.now }
+        ensures is { StageIs (origin_of self.now) under.new }
+        ensures op { under.new.op ≡ under.old.op }
+    {
+        let (site, at) = at;
+        let status = reply.status;
+        let done = reply.done;
+        under.output[0] = reply.value;
+        under.output[1] = 0;
+        under.make(
+            put_words(site.page, at, 2),
+            Decided::Replied(ResultValue { status, done }.bits()),
+        );
+        under.stage = Stage::Enter {
+            inner: Inner::Output { site },
+        };
+    }
+
+    /// Goes on by the reply to what was asked.
+    pub fn replied(&self, under: &mut Under, asked: Asked, reply: &Reply)
+        requires is { AskedIs (origin_of self.now) asked }
+        requires done { reply.now.done < 4096 }
+        ensures rest { rest_of (origin_of self.now) under.new ≡ by_answer (origin_of self.now) asked reply.now }
+        ensures is { StageIs (origin_of self.now) under.new }
+        ensures op { under.new.op ≡ under.old.op }
+    {
+        match asked {
+            Asked::EnablePartition => self.served(under, reply),
+            Asked::EnableVp => self.served(under, reply),
+            Asked::Start => self.served(under, reply),
+            Asked::Modify { .. } => self.slice_served(under, reply),
+            Asked::Flush => self.served(under, reply),
+            Asked::Write { .. } => self.served(under, reply),
+            Asked::Look { output, at, .. } => self.put_value(under, (output, at), reply),
+        }
+    }
+}

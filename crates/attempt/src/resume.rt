@@ -1,0 +1,183 @@
+// One step of an attempt: what comes next, and what is done by the answer.
+ghost use Rattle.std.specs.Prelude.{◌≡◌};
+ghost use Rattle.vsm_core.specs.Attempt.{leaves};
+ghost use Rattle.vsm_core.specs.Tree.{after, then_};
+ghost use Rattle.attempt.specs.Heads.{IsHeadOf};
+ghost use Rattle.attempt.specs.Asked.{word_step};
+ghost use Rattle.attempt.specs.Nexts.{IsNext, IsAnswerTo};
+ghost use Rattle.attempt.specs.Plans.{PlanIs};
+ghost use Rattle.attempt.specs.Paths.{reached_rest, IsReached};
+ghost use Rattle.attempt.specs.Results.{granted_of};
+ghost use Rattle.attempt.specs.Rests.{behind_rest, made_rest, rest_of, BehindIs, MakeIs, StageIs};
+ghost use Rattle.vsm_core.specs.Attempt.{by_page_mask};
+ghost use Rattle.attempt.specs.Views.{origin_of};
+
+use crate::decided::Decided;
+use crate::path::mask_of;
+use crate::place::Reached;
+use crate::poll::word_at;
+use crate::refusal::Refusal;
+use crate::site::Site;
+use crate::stage::{Behind, Next, Stage};
+use crate::state::VpState;
+use crate::step::Step;
+use crate::under::Under;
+use vsm_base::{Access, Mask, VpIndex};
+use vsm_core::PendingWord;
+
+/// The places in the assist page of what a return makes RAX and RCX (TLFS, Virtual Processor Assist Page, VTL control).
+const RAX: u16 = 2;
+
+const RCX: u16 = 3;
+
+/// Where level 0 meets the mask of a hypercall's page: the page, the access, and what comes behind it.
+#[derive(Clone, Copy)]
+struct Gate {
+    site: Site,
+    access: Access,
+    behind: Behind,
+}
+
+impl VpState {
+    /// The next planned step or, where none is left, the leave.
+    fn planned(&self, under: &Under) -> Step
+        requires { PlanIs under.now.plan }
+        ensures { IsNext (made_rest (origin_of self.now) under.now) (word_step result) }
+    {
+        let mut plan = under.plan;
+        match plan.popped(self.number, &under.output) {
+            Some(step) => step,
+            None => Step::Leave,
+        }
+    }
+
+    /// What comes next of an attempt.
+    pub fn next(&self, under: &Under) -> Next
+        requires { StageIs (origin_of self.now) under.now }
+        ensures { IsHeadOf (origin_of self.now) under.now (rest_of (origin_of self.now) under.now) result }
+    {
+        match under.stage {
+            Stage::Access => Next::Ask(under.path.next()),
+            Stage::Enter { .. } => Next::Ask(Step::Enter),
+            Stage::Check { .. } => Next::Ask(Step::Check),
+            Stage::Mask { site, .. } => Next::Ask(Step::Mask { page: site.page }),
+            Stage::Look { page, .. } => Next::Ask(Step::Read { page, index: 0 }),
+            Stage::Rax { page } => Next::Ask(Step::Read { page, index: RAX }),
+            Stage::Rcx { page, .. } => Next::Ask(Step::Read { page, index: RCX }),
+            Stage::Header { reads } => Next::Ask(reads.next()),
+            Stage::Slice { reads } => Next::Ask(reads.next()),
+            Stage::Make => Next::Ask(self.planned(under)),
+            Stage::Take { count } => Next::Ask(Step::Take {
+                word: word_at(count),
+            }),
+            Stage::Depart { .. } => Next::Ask(Step::Leave),
+            Stage::Want { asked } => Next::Want(asked),
+            Stage::Quit { .. } => Next::Ask(Step::Leave),
+            Stage::Send { sending } => Next::Ask(sending.next_post()),
+            Stage::End => Next::End,
+        }
+    }
+
+    /// Where an answer has led an access.
+    fn reached(&self, under: &mut Under, reached: Reached)
+        requires { IsReached under.old.path reached }
+        ensures rest { rest_of (origin_of self.now) under.new ≡ then_ (reached_rest under.old.path reached) (leaves (origin_of self.now) under.old.path.aim.gva.0 (granted_of self.now.state under.old.op)) }
+        ensures is { StageIs (origin_of self.now) under.new }
+        ensures op { under.new.op ≡ under.old.op }
+    {
+        match reached {
+            Reached::On => under.stage = Stage::Access,
+            Reached::Denied(refusal) => self.refused(under, refusal),
+            Reached::Granted(value) => under.leave(Decided::Granted(value)),
+            Reached::Fault(fault) => under.leave(Decided::Fault(fault)),
+        }
+    }
+
+    /// The mask of a hypercall's page is known.
+    fn masked(&self, under: &mut Under, gate: Gate, mask: Mask, generation: u64)
+        requires { BehindIs (origin_of self.now) under.old gate.behind }
+        ensures rest { rest_of (origin_of self.now) under.new ≡ by_page_mask (origin_of self.now) gate.access gate.site.address generation (behind_rest (origin_of self.now) under.old gate.behind generation) mask }
+        ensures is { StageIs (origin_of self.now) under.new }
+        ensures op { under.new.op ≡ under.old.op }
+    {
+        if mask.allows(gate.access) {
+            self.behind(under, gate.behind, generation);
+            return;
+        }
+        let refusal = Refusal {
+            page: gate.site.page,
+            mask,
+            generation,
+            access: gate.access,
+            gva: None,
+            gpa: gate.site.address,
+            filled: false,
+        };
+        self.refused(under, refusal);
+    }
+
+    /// A planned step was made or, where none was left, the leave.
+    fn made(&self, under: &mut Under)
+        requires { MakeIs (origin_of self.now) under.old }
+        ensures rest { rest_of (origin_of self.now) under.new ≡ after (made_rest (origin_of self.now) under.old) 0 }
+        ensures is { StageIs (origin_of self.now) under.new }
+        ensures op { under.new.op ≡ under.old.op }
+    {
+        match under.plan.popped(self.number, &under.output) {
+            Some(_) => under.stage = Stage::Make,
+            None => under.stage = Stage::End,
+        }
+    }
+
+    /// Goes on by the answer to what came next.
+    pub fn resume(&self, under: &mut Under, answer: u64)
+        requires is { StageIs (origin_of self.now) under.old }
+        requires answer { IsAnswerTo (rest_of (origin_of self.now) under.old) answer }
+        ensures rest { rest_of (origin_of self.now) under.new ≡ after (rest_of (origin_of self.now) under.old) answer }
+        ensures is { StageIs (origin_of self.now) under.new }
+        ensures op { under.new.op ≡ under.old.op }
+    {
+        match under.stage {
+            Stage::Access => {
+                let reached = under.path.resume(answer);
+                self.reached(under, reached);
+            }
+            Stage::Enter { inner } => under.stage = Stage::Check { inner },
+            Stage::Check { inner } => self.opened(under, inner, answer),
+            Stage::Mask {
+                site,
+                access,
+                generation,
+                behind,
+            } => {
+                let gate = Gate {
+                    site,
+                    access,
+                    behind,
+                };
+                self.masked(under, gate, mask_of(answer), generation);
+            }
+            Stage::Look { matter, .. } => self.found(under, matter, answer),
+            Stage::Rax { page } => under.stage = Stage::Rcx { page, rax: answer },
+            Stage::Rcx { rax, .. } => under.leave(Decided::Returned(Some((rax, answer)))),
+            Stage::Header { reads } => {
+                let reads = reads.read(&mut under.header, answer);
+                self.header_read(under, reads);
+            }
+            Stage::Slice { reads } => {
+                let reads = reads.read(&mut under.slice, answer);
+                self.slice_read(under, reads);
+            }
+            Stage::Make => self.made(under),
+            Stage::Take { count } => {
+                under.taken[count as usize] = answer;
+                self.taken(under, count + 1);
+            }
+            Stage::Depart { asked } => under.stage = Stage::Want { asked },
+            Stage::Want { .. } => unreachable!(),
+            Stage::Quit { sending } => under.stage = Stage::Send { sending },
+            Stage::Send { sending } => self.sent(under, sending),
+            Stage::End => unreachable!(),
+        }
+    }
+}
