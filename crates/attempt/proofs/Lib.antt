@@ -1,0 +1,4 @@
+pub mod Begins
+pub mod Polls
+pub mod Steps
+pub mod Tables

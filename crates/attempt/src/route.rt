@@ -1,7 +1,7 @@
 // Where an access goes on, by what it has learned.
 ghost use Rattle.std.specs.Prelude.{◌≡◌, ◌-◌, ◌+◌, ◌/◌, ◌^◌, ◌<◌, ◌≤◌, ℕ, List, take};
 ghost use Rattle.vsm_core.specs.Tree.{Tree, after};
-ghost use Rattle.vsm_core.specs.Access.{Decision, tables, at_table, at_page, from_check, query_of, by_mask, by_table_mask};
+ghost use Rattle.vsm_core.specs.Access.{Decision, at_table, at_page, behind_mask, entry_step, from_check, query_of, by_mask, by_table_mask};
 ghost use Rattle.vsm_core.specs.Walk.{Walked, is_paging};
 ghost use Rattle.page_walk.specs.Half.{Stands};
 ghost use Rattle.page_walk.specs.Told.{Tells, GoesOn, translation_of};
@@ -68,7 +68,7 @@ impl Path {
                 if page >= u64::from(self.aim.pages) {
                     return Reached::Fault(GuestFault::Unmapped);
                 }
-                self.at_table(walking, Page(page as u32), index)
+                self.wants(walking, Page(page as u32), index)
             }
             WalkStep::Mapped(to) => self.at_data(walking.generation, to),
             WalkStep::Fault(fault) => Reached::Fault(fault),
@@ -76,10 +76,9 @@ impl Path {
     }
 
     /// A walk that wants its next entry has come to the table of it, in a page that is there.
-    fn at_table(&mut self, walking: Walking, page: Page, index: u16) -> Reached
-        requires { IsWalking self.old.aim walking self.old.entries }
-        ensures rest { reached_rest self.new result ≡ entry_from (tables_of self.old walking) (goal_of self.old.aim) (taken_of self.old walking) walking.generation page.0 index }
-        ensures is { IsReached self.new result }
+    fn wants(&mut self, walking: Walking, page: Page, index: u16) -> Reached
+        ensures rest { reached_rest self.new result ≡ behind_mask self.old.aim.level page.0 (by_table_mask (tables_of self.old walking) (taken_of self.old walking) walking.generation page.0 index) (entry_step (tables_of self.old walking) (taken_of self.old walking) page.0 index) }
+        ensures is { IsWalking self.old.aim walking self.old.entries → IsReached self.new result }
         ensures aim { self.new.aim ≡ self.old.aim }
     {
         match self.aim.level {
@@ -89,6 +88,7 @@ impl Path {
                     page,
                     index,
                 };
+                Reached::On
             }
             Vtl::One => {
                 self.place = Place::TableRead {
@@ -96,9 +96,9 @@ impl Path {
                     page,
                     index,
                 };
+                Reached::On
             }
         }
-        Reached::On
     }
 
     /// The data page is known.
