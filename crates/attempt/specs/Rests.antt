@@ -113,8 +113,9 @@ stage_rest from u End = Ends (result_of from u)
 abbrev pub rest_of : Origin → Under → Tree Outcome
 rest_of from u = stage_rest from u u.stage
 
--- the call is one that this processor makes, and its output is there where it has one
+-- the call is one that this processor makes, of at most eight, and its output is there where it has one
 pub record IsHead (from : Origin) (u : Under) : Type 0 where
+  pub vps : from.vps ≤ 8
   pub some : is_some u.head.output ≡ has_output (row_for u.head.call)
   pub output : IfSome u.head.output (λ site. site.address ≡ output_address from.state)
   pub room : IfSome u.head.output (λ site. site.address % 4096 / 8 + 2 * count_of from ≤ 512)

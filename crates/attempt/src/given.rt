@@ -60,7 +60,6 @@ fn refused(start: u16, status: HvStatus) -> Decided
 impl VpState {
     /// A hypercall has read its input, whose slice has so many words.
     pub fn given(&self, under: &mut Under, length: u8)
-        requires few { self.now.limits.vps ≤ 8 }
         requires head { IsHead (origin_of self.now) under.old }
         requires all { length ≡ slice_words (origin_of self.now) under.old }
         ensures rest { rest_of (origin_of self.now) under.new ≡ by_input (origin_of self.now) (row_for under.old.head.call).code (header_of under.old) (take length under.old.slice) }

@@ -33,6 +33,7 @@ fn output_of(call: Call, address: u64) -> Option<Site>
 impl VpState {
     /// The first stage of a call whose input stands in memory, which nothing refuses.
     fn placed(&self, under: &mut Under, call: Call)
+        requires few { self.now.limits.vps ≤ 8 }
         requires below { (row_for call).is_rep ≡ true → start_of (origin_of self.now) < count_of (origin_of self.now) }
         requires page { input_address self.now.state / 4096 < 2 ^ 32 }
         requires output { has_output (row_for call) ≡ true → output_address self.now.state / 4096 < 2 ^ 32 }
