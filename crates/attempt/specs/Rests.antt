@@ -1,5 +1,5 @@
 -- What is left of an attempt at its stages.
-use Rattle.std.specs.Prelude.{◌≡◌, ℕ, ◌+◌, ◌*◌, ◌/◌, ◌%◌, ◌<◌, ◌≤◌, Bool, true, false, is_some, Option, Some, None, IfSome, List, ◌++◌, take, drop}
+use Rattle.std.specs.Prelude.{◌≡◌, ℕ, ◌+◌, ◌*◌, ◌/◌, ◌%◌, ◌^◌, ◌<◌, ◌≤◌, Bool, true, false, is_some, Option, Some, None, IfSome, List, ◌++◌, take, drop}
 use Rattle.vsm_base.specs.declared.places.Access.TheVariants.{Read, Write}
 use Rattle.vsm_base.specs.declared.name.Name.{Name}
 use Rattle.vsm_core.specs.declared.note.Note.{Note}
@@ -13,7 +13,7 @@ use Rattle.vsm_core.specs.Switch.{assist_page, by_interrupt, may_enter, may_retu
 use Rattle.vsm_core.specs.Tree.{Tree, Ends, Asks, Checking, Masking, Reading, Leaving, then_, asks_all, takes, reads}
 use Rattle.hyper_abi.specs.Told.{row_for}
 use Rattle.attempt.specs.declared.decided.Decided.{Decided}
-use Rattle.attempt.specs.declared.decided.Decided.TheVariants.{Set}
+use Rattle.attempt.specs.declared.decided.Decided.TheVariants.{Granted, Set}
 use Rattle.attempt.specs.declared.input.Reads.{Reads}
 use Rattle.attempt.specs.declared.refusal.Refusal.{Refusal}
 use Rattle.attempt.specs.declared.site.Site.{Site}
@@ -121,14 +121,15 @@ pub record IsHead (from : Origin) (u : Under) : Type 0 where
   pub room : IfSome u.head.output (λ site. site.address % 4096 / 8 + 2 * count_of from ≤ 512)
   pub below : (row_for u.head.call).is_rep ≡ true → start_of from < count_of from
 
--- a slice that sets registers is one of its call
-abbrev pub DecidedIs : Origin → Decided → Type 0
-DecidedIs from (Set target) = start_of from ≤ count_of from
-DecidedIs from _ = Unit {0}
+-- a granted access has come to a page, and a slice that sets registers is one of its call
+abbrev pub DecidedIs : Origin → Under → Decided → Type 0
+DecidedIs from u (Granted value) = u.path.fill.to.page < 2 ^ 32
+DecidedIs from u (Set target) = start_of from ≤ count_of from
+DecidedIs from u _ = Unit {0}
 
 pub record MakeIs (from : Origin) (u : Under) : Type 0 where
   pub plan : PlanIs u.plan
-  pub decided : DecidedIs from u.decided
+  pub decided : DecidedIs from u u.decided
 
 -- level 1 is told of a denial only where it may be entered
 abbrev pub MatterIs : Origin → Matter → Type 0
@@ -181,7 +182,7 @@ IsAt from u (Depart asked) = AskedIs from asked
 IsAt from u (Want asked) = AskedIs from asked
 IsAt from u (Quit sending) = SendIs from sending
 IsAt from u (Send sending) = SendIs from sending
-IsAt from u End = DecidedIs from u.decided
+IsAt from u End = DecidedIs from u u.decided
 
 abbrev pub StageIs : Origin → Under → Type 0
 StageIs from u = IsAt from u u.stage

@@ -267,7 +267,7 @@ impl VpState {
     /// The end of an attempt, as it was decided.
     pub fn finish(&mut self, under: &Under) -> What
         requires room { 0 < self.old.room }
-        requires is { DecidedIs (origin_of self.old) under.now.decided }
+        requires is { DecidedIs (origin_of self.old) under.now under.now.decided }
         ensures { Comes self.old self.new result (result_of (origin_of self.old) under.now) }
     {
         match under.decided {

@@ -87,7 +87,7 @@ impl VpState {
     /// The first word of the message slot was read: a note of level 0 is posted.
     fn posted(&self, under: &mut Under, note: &Note, word: u64, decided: Decided)
         ensures rest { rest_of (origin_of self.now) under.new ≡ posts (origin_of self.now) note.now word (outcome_of (origin_of self.now) under.old decided) }
-        ensures is { DecidedIs (origin_of self.now) decided → StageIs (origin_of self.now) under.new }
+        ensures is { DecidedIs (origin_of self.now) under.old decided → StageIs (origin_of self.now) under.new }
         ensures op { under.new.op ≡ under.old.op }
     {
         let plan = self.posting(&mut under.output, note, word);
