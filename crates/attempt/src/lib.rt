@@ -1,6 +1,7 @@
 //! The attempts of one processor, apart from the shared words: what an operation asks next, and what the answer does.
 #![tactic(auto)]
 
+mod again;
 mod aim;
 mod begin;
 mod controllers;
@@ -25,6 +26,7 @@ mod resume;
 mod route;
 mod site;
 mod stage;
+mod start;
 mod state;
 mod step;
 mod switches;

@@ -1,36 +1,14 @@
 //! One virtual processor, a turn at a time.
 #![tactic(auto)]
 
-mod beginning;
-mod controllers;
+mod ask;
+mod begun;
 mod cpu_turn;
-mod decided;
 mod endings;
-mod given;
-mod hypercalls;
-mod input;
-mod intercepts;
-mod interrupt;
-mod interrupts;
-mod judging;
+mod lengths;
 mod log;
-mod messages;
-mod operations;
-mod output;
-mod plans;
+mod marks;
 mod processor;
-mod putting;
-mod reading;
-mod registers;
-mod replying;
-mod sending;
-mod slices;
-mod stage;
-mod starts;
-mod stepping;
-mod taking;
-mod task;
-mod touching;
 
 pub use cpu_turn::CpuTurn;
 pub use processor::Cpu;

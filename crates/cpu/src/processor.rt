@@ -1,51 +1,36 @@
 // A processor, its attempts and its turns.
-ghost use Rattle.std.specs.Prelude.{◌≡◌, ◌≢◌, [], ◌+◌, ◌-◌, ◌<◌, ◌≤◌, true, false, None, Some, IfSome, IfNone, IfOk, length, drop};
+ghost use Rattle.std.specs.Prelude.{◌≡◌, [], ◌+◌, ◌-◌, ◌<◌, ◌≤◌, ◌≢◌, true, false, None, Some, IfSome, IfOk, length, drop};
 ghost use Rattle.std.specs.List.{All};
-ghost use Rattle.vsm_core.specs.Processor.{opening, standing, operation_at, operations_of, length_of, rest_of, start_rest, settled, marked, came_to, new_marks, origin_of, answered, IsShort, IsSameProcessor};
-ghost use Rattle.vsm_core.specs.Attempt.{attempt, most_steps_of};
-ghost use Rattle.vsm_core.specs.Outcomes.{Outcome, outcome_at};
-ghost use Rattle.vsm_core.specs.Tree.{Ends, by_reply};
-ghost use Rattle.cpu.specs.Sound.{length_at};
-ghost use Rattle.vtl_state.specs.States.{state_of};
-ghost use Rattle.cpu.specs.Results.{result_of};
-ghost use Rattle.cpu.specs.Turns.{HandsSlice, IsWaiting, Keeps, VpServes, TurnsBy, AcceptsBy, OwesBy, Wakes, answer_at, after_mark, phase_at};
+ghost use Rattle.vsm_core.specs.Processor.{opening, standing, operation_at, rest_of, start_rest, settled, new_marks, answered, IsShort, IsSameProcessor};
+ghost use Rattle.vsm_core.specs.Tree.{by_reply};
+ghost use Rattle.cpu.specs.Ends.{SpinsInVain};
+ghost use Rattle.cpu.specs.Turns.{HandsSlice, IsWaiting, Keeps, VpServes, TurnsBy, AcceptsBy, OwesBy, Wakes, answer_at, phase_at};
 
-use crate::beginning::{begin, begun};
-use crate::controllers::Controllers;
-use crate::cpu_turn::{CpuTurn, after_mark};
-use crate::decided::Decided;
-use crate::endings::{ending, ending_on, opening_ending};
-use crate::hypercalls::request;
-use crate::judging::judged;
+use crate::ask::ask;
+use crate::begun::begun;
+use crate::cpu_turn::CpuTurn;
+use crate::endings::Course;
+use crate::lengths::{Lengths, rip_of};
 use crate::log::Log;
-use crate::operations::{again, finish};
-use crate::replying::replied_stage;
-use crate::stage::{Stage, Under, is_going};
-use crate::starts::{begin_with, fetch};
-use crate::stepping::step;
+use crate::marks::{course_on, leave_mark, leave_start};
+use attempt::{Asked, Next, Under, VpState};
 use fabric::Port;
 use register_file::Bank;
-use secure_intr::Pending;
 use std::alloc::Global;
 use std::marker::Model;
-use synic::Synic;
-use vsm_base::{Items, Limits, Memory, Name, Reserved, VpIndex, Vtl};
-use vsm_core::{Ending, Event, Grant, Heard, Mark, Op, PendingWord, Phase, Program, Reply, What};
-use vtl_state::{Levels, word_of};
+use vsm_base::{Items, Limits, Memory, Reserved, VpIndex};
+use vsm_core::{Ending, Event, Grant, Heard, Mark, PendingWord, Program, Reply};
+use vtl_state::Levels;
 
 /// A virtual processor: its registers, what its interrupt controllers hold, the operation that it is at, its marks and its
 /// events. Contracts see all of these as the definition has them. The operations, and the steps of their attempts, are this project's own.
 #[derive(Drop)]
 pub struct Cpu {
-    vp: VpIndex,
-    limits: Limits,
-    zero_length: usize,
-    one_length: usize,
+    state: VpState,
+    lengths: Lengths,
     started: bool,
-    bank: Bank,
-    levels: Levels,
-    controllers: Controllers,
-    under: Option<Under>,
+    under: Under,
+    acting: bool,
     owes: bool,
     heard: Option<Heard>,
     log: Log,
@@ -60,24 +45,6 @@ impl Model for Cpu {
     ghost view = { view_of };
 
     ghost invariant = { IsSound };
-}
-
-fn length_of(zero: usize, one: usize, levels: &Levels) -> usize
-    ensures { result ≡ length_at zero one levels.now.active }
-{
-    match levels.active() {
-        Vtl::Zero => zero,
-        Vtl::One => one,
-    }
-}
-
-fn operations<'a>(program: &'a Program, levels: &Levels) -> &'a [Op]
-    ensures { result.now ≡ operations_of program.now levels.now.active }
-{
-    match levels.active() {
-        Vtl::Zero => program.zero.as_slice(),
-        Vtl::One => program.one.as_slice(),
-    }
 }
 
 impl Cpu {
@@ -105,9 +72,18 @@ impl Cpu {
         let budget = limits.budget as usize;
         let marks = Reserved::new(alloc, budget)?;
         let seen = Reserved::new(alloc, 64 * budget)?;
-        let synic = Synic::new(alloc, limits.budget)?;
-        let zero_length = program.zero.len();
-        let ended = opening_ending(started, zero_length, limits.budget);
+        let state = VpState::opening(alloc, vp, limits)?;
+        let lengths = Lengths {
+            zero: program.zero.len(),
+            one: program.one.len(),
+        };
+        let course = Course {
+            length: lengths.zero,
+            rip: 0,
+            budget: limits.budget,
+            marks: 0,
+            spins: 0,
+        };
         let log = Log {
             marks,
             seen,
@@ -115,120 +91,48 @@ impl Cpu {
             first: 0,
             again: false,
             spins: 0,
-            ended,
+            ended: course.at_opening(started),
         };
         Ok(Cpu {
-            vp,
-            limits: *limits,
-            zero_length,
-            one_length: program.one.len(),
+            state,
+            lengths,
             started,
-            bank: Bank::opening(),
-            levels: Levels::opening(),
-            controllers: Controllers {
-                zero: Pending::new(),
-                one: Pending::new(),
-                synic,
-            },
-            under: None,
+            under: Under::idle(),
+            acting: false,
             owes: false,
             heard: None,
             log,
         })
     }
 
-    /// Leaves the mark that stays, where an attempt has ended.
-    fn mark(&mut self, op: Op, decided: Decided) -> CpuTurn
-        requires started { self.old.started ≡ true }
-        requires going { self.old.ended ≡ None }
-        requires answered { self.old.owes ≡ false }
-        requires fresh { self.old.again ≡ false }
-        requires tidy { self.old.part ≡ self.old.first }
-        requires idle { phase_at self.old.seen self.old.first ≡ Phase.Idle }
-        requires few { length self.old.seen - self.old.first ≤ most_steps_of (result_of (origin_of self.old) op decided).what }
-        ensures new { self.new ≡ marked self.old (result_of (origin_of self.old) op decided) }
-        ensures turn { result ≡ after_mark (result_of (origin_of self.old) op decided).what self.new.ended }
-        ensures short { All IsShort (drop (length self.old.marks) self.new.marks) }
-        ensures phase { phase_at self.new.seen self.new.first ≡ Phase.Idle }
-        ensures same { IsSameProcessor self.old self.new }
-        ensures kept { Keeps self.old self.new }
-        ensures owes { OwesBy result self.new.owes }
-        ensures within { length self.new.marks ≤ self.old.limits.budget }
-    {
-        let level = self.levels.active();
-        let rip = word_of(&self.bank, &self.levels, Name::Rip);
-        let what = finish(
-            self.limits,
-            self.vp,
-            &mut self.bank,
-            &mut self.levels,
-            &mut self.controllers,
-            op,
-            decided,
-        );
-        let now = word_of(&self.bank, &self.levels, Name::Rip);
-        let length = length_of(self.zero_length, self.one_length, &self.levels);
-        let marks = self.log.marks.as_slice().len() + 1;
-        let ended = ending(
-            length,
-            self.limits.budget,
-            &what,
-            now,
-            marks,
-            self.log.spins,
-        );
-        let turn = after_mark(&what, ended);
-        self.under = None;
-        self.heard = None;
-        self.log.mark(level, rip, what, ended);
-        turn
-    }
-
     /// Leaves the mark of a spin that found another value and begins anew, or ends.
     #[tactic(auto, unfolding(vsm_core::specs::Processor::spin_limit))]
-    fn mark_again(&mut self, op: Op, grant: Grant) -> CpuTurn
+    fn mark_again(&mut self, grant: Grant) -> CpuTurn
         requires started { self.old.started ≡ true }
         requires going { self.old.ended ≡ None }
         requires answered { self.old.owes ≡ false }
         requires fresh { self.old.again ≡ false }
-        requires tidy { self.old.part ≡ self.old.first }
-        requires idle { phase_at self.old.seen self.old.first ≡ Phase.Idle }
-        requires few { length self.old.seen - self.old.first ≤ 13 }
-        requires op { self.old.op ≡ Some op }
-        requires unheard { self.old.heard ≡ None }
-        requires asks { (o : Outcome) → attempt (origin_of self.old) op ≢ Ends o }
-        requires spins { op ≢ Op.Poll }
-        requires no_call { op ≢ Op.Hypercall }
-        ensures new { self.new ≡ came_to (What.Again grant) self.old (outcome_at (origin_of self.old) (What.Again grant) self.old.state []) }
-        ensures turn { result ≡ after_mark (What.Again grant) self.new.ended }
+        requires spins { SpinsInVain self.old grant }
+        ensures new { self.new ≡ settled (rest_of self.old self.old.op) self.old }
+        ensures turn { result ≡ answer_at (rest_of self.old self.old.op) self.new.ended }
         ensures short { All IsShort (drop (length self.old.marks) self.new.marks) }
-        ensures phase { phase_at self.new.seen self.new.first ≡ Phase.Idle }
+        ensures phase { phase_at self.new.seen self.new.first ≡ phase_at self.old.seen self.old.first }
         ensures same { IsSameProcessor self.old self.new }
         ensures kept { Keeps self.old self.new }
         ensures owes { OwesBy result self.new.owes }
         ensures within { length self.new.marks ≤ self.old.limits.budget }
     {
-        let level = self.levels.active();
-        let rip = word_of(&self.bank, &self.levels, Name::Rip);
-        let length = length_of(self.zero_length, self.one_length, &self.levels);
-        let marks = self.log.marks.as_slice().len();
-        let spins = self.log.spins + 1;
-        match ending_on(length, self.limits.budget, rip, marks, spins) {
+        match course_on(&self.state, &self.log, &self.lengths).going_on() {
             Some(ending) => {
-                self.under = None;
+                self.acting = false;
                 self.log.end_spin(ending);
                 CpuTurn::Ended(ending)
             }
             None => {
-                let stage = begin(
-                    self.limits,
-                    self.vp,
-                    &self.bank,
-                    &self.levels,
-                    &self.controllers,
-                    op,
-                );
-                self.under = Some(Under { op, stage });
+                let level = self.state.levels.active();
+                let rip = rip_of(&self.state);
+                let op = self.under.op;
+                self.state.begin(&mut self.under, op);
                 self.log.mark_again(level, rip, grant);
                 CpuTurn::Again
             }
@@ -251,18 +155,26 @@ impl Cpu {
         ensures owes { OwesBy result self.new.owes }
         ensures within { length self.new.marks ≤ self.old.limits.budget }
     {
-        let Some(under) = self.under else {
-            unreachable!()
-        };
-        let Under { op, stage } = under;
-        let Stage::End { decided } = stage else {
-            return CpuTurn::Moved;
-        };
-        match again(op, &decided) {
-            Some(grant) => self.mark_again(op, grant),
-            None => self.mark(op, decided),
+        match self.state.next(&self.under) {
+            Next::Ask(_) => CpuTurn::Moved,
+            Next::Want(_) => CpuTurn::Moved,
+            Next::End => match self.under.again() {
+                Some(grant) => self.mark_again(grant),
+                None => {
+                    let turn = leave_mark(
+                        &mut self.state,
+                        &mut self.log,
+                        &self.under,
+                        &self.lengths,
+                    );
+                    self.acting = false;
+                    self.heard = None;
+                    turn
+                }
+            },
         }
     }
+
     /// Makes the next step of a processor that has started, or the end of an attempt that has no step left.
     fn advance<P: Port>(&mut self, port: &mut P, program: &Program) -> CpuTurn
         requires started { self.old.started ≡ true }
@@ -282,40 +194,22 @@ impl Cpu {
         ensures slices { HandsSlice result }
         ensures within { length self.new.marks ≤ self.old.limits.budget }
     {
-        let ops = operations(program, &self.levels);
-        let under = begun(
-            self.limits,
-            self.vp,
-            &self.bank,
-            &self.levels,
-            &self.controllers,
-            self.under,
-            ops,
-        );
+        begun(&self.state, &mut self.under, self.acting, program);
+        self.acting = true;
         self.log.stand();
-        self.under = Some(under);
-        if let Stage::Want { asked } = under.stage {
-            self.owes = true;
-            return CpuTurn::Wants(request(self.vp, &self.levels, &asked));
+        match self.state.next(&self.under) {
+            Next::Want(asked) => {
+                self.owes = true;
+                CpuTurn::Wants(self.state.request(&self.under, asked))
+            }
+            Next::End => self.settle(),
+            Next::Ask(step) => {
+                let (answer, event) = ask(port, step);
+                self.log.see(event);
+                self.state.resume(&mut self.under, answer);
+                self.settle()
+            }
         }
-        if !is_going(&under.stage) {
-            return self.settle();
-        }
-        let step = step(under.stage, port);
-        self.log.see(step.event);
-        let stage = judged(
-            self.limits,
-            self.vp,
-            &self.bank,
-            &self.levels,
-            &self.controllers,
-            step.stage,
-        );
-        self.under = Some(Under {
-            op: under.op,
-            stage,
-        });
-        self.settle()
     }
 
     /// Takes from the start word of a processor that hasn't started, or asks for its contexts where it has taken a start.
@@ -336,7 +230,7 @@ impl Cpu {
     {
         if self.log.first < self.log.seen.as_slice().len() {
             self.owes = true;
-            return CpuTurn::Wants(fetch(self.vp, &self.levels));
+            return CpuTurn::Wants(self.state.fetch());
         }
         let bits = port.take(PendingWord::Start);
         if bits == 0 {
@@ -426,13 +320,11 @@ impl Cpu {
         ensures kept { Keeps self.old self.new }
         ensures within { length self.new.marks ≤ self.old.limits.budget }
     {
-        let Some(under) = self.under else {
+        let Next::Want(asked) = self.state.next(&self.under) else {
             unreachable!()
         };
-        let Under { op, stage } = under;
-        let stage = replied_stage(self.vp, &self.levels, &stage, &reply);
+        self.state.replied(&mut self.under, asked, &reply);
         let after = (self.log.seen.as_slice().len() - self.log.first) as u32;
-        self.under = Some(Under { op, stage });
         self.heard = Some(Heard { after, reply });
         self.owes = false;
         self.settle()
@@ -451,25 +343,10 @@ impl Cpu {
         ensures kept { Keeps self.old self.new }
         ensures within { length self.new.marks ≤ self.old.limits.budget }
     {
-        begin_with(&mut self.bank, &mut self.levels, &reply.context);
-        let level = self.levels.active();
-        let rip = word_of(&self.bank, &self.levels, Name::Rip);
-        let what = What::Started;
-        let length = length_of(self.zero_length, self.one_length, &self.levels);
-        let marks = self.log.marks.as_slice().len() + 1;
-        let ended = ending(
-            length,
-            self.limits.budget,
-            &what,
-            rip,
-            marks,
-            self.log.spins,
-        );
-        let turn = after_mark(&what, ended);
+        self.state.start(&reply.context);
         self.started = true;
         self.owes = false;
-        self.log.mark(level, rip, what, ended);
-        turn
+        leave_start(&self.state, &mut self.log, &self.lengths)
     }
 
     /// Takes the reply to the request that the last turn answered. The attempt goes on by it, or comes to its end: RAX has
@@ -516,7 +393,7 @@ impl Cpu {
         ensures waiting { self.now.started ≡ false → IsWaiting self.now }
         ensures looked { self.now.started ≡ false → self.now.owes ≡ true → length self.now.seen ≡ 1 }
     {
-        self.vp
+        self.state.number
     }
 
     /// Whether the processor has started.
@@ -564,7 +441,7 @@ impl Cpu {
     pub fn bank(&self) -> &Bank
         ensures { result.now ≡ self.now.state.registers }
     {
-        &self.bank
+        &self.state.bank
     }
 
     /// The levels: which is active, and whether level 1 is enabled.
@@ -572,7 +449,7 @@ impl Cpu {
         ensures active { result.now.active ≡ self.now.state.active }
         ensures enabled { result.now.enabled ≡ self.now.state.enabled }
     {
-        &self.levels
+        &self.state.levels
     }
 
     /// The marks and the events, oldest first.
@@ -605,14 +482,13 @@ impl Cpu {
         ensures state { IfSome result (λ cpu. cpu ≡ record self { state = state_of bank levels }) }
         ensures idle { IfSome result (λ cpu. cpu.op ≡ None) }
     {
-        let rip = word_of(&bank, &levels, Name::Rip);
-        let length = length_of(self.zero_length, self.one_length, &levels);
-        if self.under.is_some() || rip >= length as u64 {
+        let mut cpu = self;
+        cpu.state.bank = bank;
+        cpu.state.levels = levels;
+        let length = cpu.lengths.at(cpu.state.levels.active());
+        if cpu.acting || rip_of(&cpu.state) >= length as u64 {
             return None;
         }
-        let mut cpu = self;
-        cpu.bank = bank;
-        cpu.levels = levels;
         Some(cpu)
     }
 }
