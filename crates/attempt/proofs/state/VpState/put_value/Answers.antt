@@ -1,7 +1,8 @@
-use Rattle.std.proofs.Common.{◌≡◌, ◌∙◌, ◌∷◌, ◌<◌, ◌≤◌, ◌^◌, [], ℕ, List, length, refl, ap, rules}
+use Rattle.std.proofs.Common.{◌≡◌, ◌∙◌, refl, ap}
 use Rattle.vsm_core.specs.Controllers.{writes}
 use Rattle.vsm_core.specs.Hypercalls.{result_outcome}
 use Rattle.vsm_core.specs.Outcomes.{Origin}
+use Rattle.vsm_core.specs.RegisterCalls.{value_words}
 use Rattle.attempt.specs.declared.site.Site.{Site}
 use Rattle.attempt.specs.declared.stage.Inner.TheVariants.{Output}
 use Rattle.attempt.specs.declared.stage.Stage.TheVariants.{Enter}
@@ -9,7 +10,7 @@ use Rattle.attempt.specs.declared.under.Under.{Under}
 use Rattle.attempt.specs.Plans.{planned}
 use Rattle.attempt.specs.Results.{outcome_of}
 use Rattle.attempt.specs.Views.{origin_of}
-use Rattle.attempt.proofs.Puts.{puts-value, two-set}
+use Rattle.attempt.proofs.Puts.{puts-value}
 use Rattle.attempt.proofs.state.VpState.put_value.Goals as goal
 
 pub returns-clause-rest : goal.returns-clause-rest
@@ -20,7 +21,6 @@ returns-clause-rest c =
     let reply = c.args.reply.now in
     let made : Under = c.make.new.self in
     let u : Under = record made { stage = Enter (Output site) } in
-    let long : 2 ≤ length c.args.under.now.output = search rules in
-    let steps : planned from.number c.make.new.self.output c.make.new.self.plan ≡ writes site.page.0 at (reply.value ∷ 0 ∷ []) = rw c.make.ensures (c.put_words.ensures.steps from.number _ ∙ ap (writes site.page.0 at) (two-set c.args.under.now.output reply.value 0 long)) in
+    let steps : planned from.number c.make.new.self.output c.make.new.self.plan ≡ writes site.page.0 at (value_words reply.value) = rw c.make.ensures (c.put_words.ensures.steps from.number _ ∙ ap (writes site.page.0 at) c.put_pair.ensures) in
     let result : outcome_of from u c.make.new.self.decided ≡ result_outcome from from.state reply.status reply.done = rw (c.make.ensures, c.bits.ensures.value) refl in
-    puts-value from u site at reply site.known steps (search rules) result
+    puts-value from u site at reply site.known steps result
