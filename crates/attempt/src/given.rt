@@ -10,7 +10,7 @@ ghost use Rattle.rep_frame.specs.Ends.{end_from};
 ghost use Rattle.attempt.specs.Calls.{header_of};
 ghost use Rattle.attempt.specs.Results.{outcome_of};
 ghost use Rattle.attempt.specs.Slices.{end_place, got_rest};
-ghost use Rattle.attempt.specs.Rests.{rest_of, slice_words, IsHead, StageIs};
+ghost use Rattle.attempt.specs.Rests.{rest_of, slice_words, DecidedIs, IsHead, StageIs};
 ghost use Rattle.attempt.specs.Views.{origin_of};
 
 use crate::decided::Decided;
@@ -39,7 +39,8 @@ struct Output {
 /// How an attempt is decided by what the slice of a call that gets registers comes to, whose elements the frame has counted.
 fn decided_by(frame: &RepFrame, end: SliceEnd) -> Decided
     requires { end_place (end_from end) ≡ frame.now.next }
-    ensures { (from : Origin) (under : Under) → outcome_of from under result ≡ slice_outcome from from.state [] (end_from end) }
+    ensures outcome { (from : Origin) (under : Under) → outcome_of from under result ≡ slice_outcome from from.state [] (end_from end) }
+    ensures is { (from : Origin) (under : Under) → DecidedIs from under result }
 {
     match end {
         SliceEnd::Refused(status, _) => Decided::Replied(frame.finish(status).bits()),
