@@ -1,4 +1,5 @@
 pub mod Begins
 pub mod Polls
+pub mod Sendings
 pub mod Steps
 pub mod Tables
