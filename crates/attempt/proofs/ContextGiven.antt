@@ -11,7 +11,7 @@ use Rattle.vsm_core.specs.Registers.{Registers}
 use Rattle.vtl_state.specs.Levels.{LevelsView, is_enabled}
 use Rattle.vtl_state.specs.States.{state_of, enabled_with}
 
-has-level : (registers : Registers) (levels : LevelsView) (level : Vtl) → has_level (state_of registers levels) level ≡ is_enabled levels level
+pub has-level : (registers : Registers) (levels : LevelsView) (level : Vtl) → has_level (state_of registers levels) level ≡ is_enabled levels level
 has-level registers levels Zero = refl
 has-level registers levels One = refl
 
