@@ -4,5 +4,6 @@ pub mod Inputs
 pub mod Polls
 pub mod Puts
 pub mod Sendings
+pub mod Starts
 pub mod Steps
 pub mod Tables
