@@ -6,7 +6,7 @@ use Rattle.vsm_core.specs.Controllers.{rings, writes}
 use Rattle.vsm_core.specs.Hypercalls.{result_outcome}
 use Rattle.vsm_core.specs.Outcomes.{Origin, Outcome}
 use Rattle.vsm_core.specs.RegisterCalls.{value_words}
-use Rattle.vsm_core.specs.Tree.{Tree, asks_all}
+use Rattle.vsm_core.specs.Tree.{Tree, WordStep, after, asks_all}
 use Rattle.vsm_base.specs.declared.places.Access.TheVariants.{Write}
 use Rattle.vsm_core.specs.declared.request.Reply.{Reply}
 use Rattle.attempt.specs.declared.site.Site.{Site}
@@ -25,7 +25,7 @@ low-words value low =
     ap (λ x. x ∷ value / 2 ^ 64 ∷ []) first ∙ ap (λ y. value ∷ y ∷ []) second
 
 -- the first two words were set
-two-set : (words : List ℕ) (first second : ℕ) → 2 ≤ length words → take 2 (slice_set (slice_set words 0 first) 1 second) ≡ first ∷ second ∷ []
+pub two-set : (words : List ℕ) (first second : ℕ) → 2 ≤ length words → take 2 (slice_set (slice_set words 0 first) 1 second) ≡ first ∷ second ∷ []
 two-set [] first second long = absurd (omega (arith, long))
 two-set (a ∷ []) first second long = absurd (omega (arith, long))
 two-set (a ∷ b ∷ words) first second long = refl
@@ -47,3 +47,8 @@ puts-value from u site at reply page steps result =
         ∙ ap (λ p. asks_all (writes p at (value_words reply.value)) (left_with (result_of from u))) page
         ∙ ap (λ o. asks_all (writes (site.address / 4096) at (value_words reply.value)) (left_with o)) result in
     ap (λ t. in_access_from (λ generation. behind_page_mask from.state.active from Write site.address generation t)) made
+
+-- no answer to a planned step says anything
+pub asks-same : (steps : List WordStep) (o : Outcome) (x y : ℕ) → after (asks_all steps (left_with o)) x ≡ after (asks_all steps (left_with o)) y
+asks-same [] o x y = refl
+asks-same (step ∷ steps) o x y = refl
