@@ -3,5 +3,6 @@ pub mod ContextGiven
 pub mod Inputs
 pub mod Puts
 pub mod Polls
+pub mod Sendings
 pub mod Steps
 pub mod Tables

@@ -38,3 +38,6 @@ pub use stage::{Next, Stage};
 pub use state::VpState;
 pub use step::Step;
 pub use under::Under;
+
+#[cfg(test)]
+mod tests;
