@@ -1,4 +1,4 @@
-use Rattle.std.proofs.Common.{◌≡◌, ◌∙◌, refl, ap}
+use Rattle.std.proofs.Common.{◌∙◌, refl, ap}
 use Rattle.vsm_core.specs.Attempt.{by_access}
 use Rattle.vsm_core.specs.Outcomes.{Origin}
 use Rattle.attempt.specs.Results.{granted_of}

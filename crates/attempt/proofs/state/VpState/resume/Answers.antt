@@ -1,4 +1,4 @@
-use Rattle.std.proofs.Common.{◌≡◌, ◌∙◌, ◌+◌, ◌<◌, ◌∷◌, ℕ, List, drop, take, length, sym, ap, rules}
+use Rattle.std.proofs.Common.{◌∙◌, ◌+◌, ◌<◌, ℕ, List, drop, take, sym, ap, rules}
 use Rattle.std.proofs.lemmas.List.{take_more_set}
 use Rattle.vsm_core.specs.Access.{Decision}
 use Rattle.vsm_core.specs.Attempt.{leaves, polled}
