@@ -1,12 +1,12 @@
 -- What is put out.
-use Rattle.std.proofs.Common.{◌≡◌, ◌∙◌, ◌/◌, ◌%◌, ◌^◌, ◌<◌, ◌≤◌, ◌+◌, ℕ, Option, List, [], ◌∷◌, ◌++◌, length, take, slice_set, refl, sym, ap, arith}
+use Rattle.std.proofs.Common.{◌≡◌, ◌∙◌, ◌/◌, ◌%◌, ◌^◌, ◌<◌, ◌≤◌, ℕ, Option, List, [], ◌∷◌, ◌++◌, length, take, slice_set, refl, sym, ap, arith}
 use Rattle.std.proofs.lemmas.List.{append-nil, take_at}
 use Rattle.vsm_core.specs.Attempt.{behind_page_mask, in_access_from, left_with}
 use Rattle.vsm_core.specs.Controllers.{rings, writes}
 use Rattle.vsm_core.specs.Hypercalls.{result_outcome}
 use Rattle.vsm_core.specs.Outcomes.{Origin, Outcome}
 use Rattle.vsm_core.specs.RegisterCalls.{value_words}
-use Rattle.vsm_core.specs.Tree.{Tree, asks_all}
+use Rattle.vsm_core.specs.Tree.{WordStep, after, asks_all}
 use Rattle.vsm_base.specs.declared.places.Access.TheVariants.{Write}
 use Rattle.vsm_core.specs.declared.request.Reply.{Reply}
 use Rattle.attempt.specs.declared.site.Site.{Site}
@@ -25,7 +25,7 @@ low-words value low =
     ap (λ x. x ∷ value / 2 ^ 64 ∷ []) first ∙ ap (λ y. value ∷ y ∷ []) second
 
 -- the first two words were set
-two-set : (words : List ℕ) (first second : ℕ) → 2 ≤ length words → take 2 (slice_set (slice_set words 0 first) 1 second) ≡ first ∷ second ∷ []
+pub two-set : (words : List ℕ) (first second : ℕ) → 2 ≤ length words → take 2 (slice_set (slice_set words 0 first) 1 second) ≡ first ∷ second ∷ []
 two-set [] first second long = absurd (omega (arith, long))
 two-set (a ∷ []) first second long = absurd (omega (arith, long))
 two-set (a ∷ b ∷ words) first second long = refl
@@ -43,7 +43,12 @@ pub puts-value : (from : Origin) (u : Under) (site : Site) (at : ℕ) (reply : R
     → in_access_from (inner_rest from u (Output site)) ≡ looked_at from site at reply
 puts-value from u site at reply page steps result =
     let made : made_rest from u ≡ asks_all (writes (site.address / 4096) at (value_words reply.value)) (left_with (result_outcome from from.state reply.status reply.done)) =
-        ap (λ s. asks_all s (left_with (result_of from u))) steps
-        ∙ ap (λ p. asks_all (writes p at (value_words reply.value)) (left_with (result_of from u))) page
-        ∙ ap (λ o. asks_all (writes (site.address / 4096) at (value_words reply.value)) (left_with o)) result in
+    ap (λ s. asks_all s (left_with (result_of from u))) steps
+    ∙ ap (λ p. asks_all (writes p at (value_words reply.value)) (left_with (result_of from u))) page
+    ∙ ap (λ o. asks_all (writes (site.address / 4096) at (value_words reply.value)) (left_with o)) result in
     ap (λ t. in_access_from (λ generation. behind_page_mask from.state.active from Write site.address generation t)) made
+
+-- no answer to a planned step says anything
+pub asks-same : (steps : List WordStep) (o : Outcome) (x y : ℕ) → after (asks_all steps (left_with o)) x ≡ after (asks_all steps (left_with o)) y
+asks-same [] o x y = refl
+asks-same (step ∷ steps) o x y = refl

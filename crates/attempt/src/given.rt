@@ -67,18 +67,17 @@ impl VpState {
         ensures is { StageIs (origin_of self.now) under.new }
         ensures op { under.new.op ≡ under.old.op }
     {
-        let asked = match under.head.call {
-            Call::FlushVirtualAddressSpace => Asked::Flush,
-            Call::FlushVirtualAddressList => Asked::Flush,
-            Call::SendSyntheticClusterIpi => return self.interrupting_inside(under),
-            Call::ModifyVtlProtectionMask => Asked::Modify { length },
-            Call::EnablePartitionVtl => Asked::EnablePartition,
-            Call::EnableVpVtl => Asked::EnableVp,
-            Call::GetVpRegisters => return self.getting(under, length),
-            Call::SetVpRegisters => return self.setting_all(under, length),
-            Call::StartVirtualProcessor => Asked::Start,
-        };
-        under.stage = Stage::Depart { asked };
+        match under.head.call {
+            Call::FlushVirtualAddressSpace => under.depart(Asked::Flush),
+            Call::FlushVirtualAddressList => under.depart(Asked::Flush),
+            Call::SendSyntheticClusterIpi => self.interrupting_inside(under),
+            Call::ModifyVtlProtectionMask => under.depart(Asked::Modify { length }),
+            Call::EnablePartitionVtl => under.depart(Asked::EnablePartition),
+            Call::EnableVpVtl => under.depart(Asked::EnableVp),
+            Call::GetVpRegisters => self.getting(under, length),
+            Call::SetVpRegisters => self.setting_all(under, length),
+            Call::StartVirtualProcessor => under.depart(Asked::Start),
+        }
     }
 
     /// A call that sets registers has read its slice of so many words.

@@ -31,13 +31,21 @@ pub enum Asked {
     /// HvCallStartVirtualProcessor.
     Start,
     /// HvCallModifyVtlProtectionMask, for a slice of so many pages.
-    Modify { length: u8 },
+    Modify {
+        length: u8,
+    },
     /// A flush of all translations.
     Flush,
     /// The configuration of the partition is to have this value.
-    Write { value: u128 },
+    Write {
+        value: u128,
+    },
     /// A register of the partition, whose value then goes to this place in the page of the output.
-    Look { register: Look, output: Site, at: u16 },
+    Look {
+        register: Look,
+        output: Site,
+        at: u16,
+    },
 }
 
 /// An interrupt that is posted to one processor after the other, in the order of their numbers: to the next one, and then

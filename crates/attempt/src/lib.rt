@@ -40,3 +40,6 @@ pub use stage::{Next, Stage};
 pub use state::VpState;
 pub use step::Step;
 pub use under::Under;
+
+#[cfg(test)]
+mod tests;

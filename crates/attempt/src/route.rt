@@ -36,12 +36,7 @@ impl Path {
             };
             return self.at_data(generation, to);
         }
-        match Walk::start(
-            self.aim.cr3,
-            self.aim.gva,
-            self.aim.access,
-            self.aim.cpl,
-        ) {
+        match Walk::start(self.aim.cr3, self.aim.gva, self.aim.access, self.aim.cpl) {
             Ok(walk) => {
                 let (page, index) = walk.first();
                 let walking = Walking {

@@ -1,4 +1,4 @@
-use Rattle.std.proofs.Common.{arith, rules}
+use Rattle.std.proofs.Common.{rules}
 use Rattle.attempt.proofs.Puts.{pair-set}
 use Rattle.attempt.proofs.reply.put_pair.Goals as goal
 

@@ -1,4 +1,4 @@
-use Rattle.std.proofs.Common.{◌≡◌, ◌∙◌, ◌+◌, ◌*◌, ◌/◌, ◌%◌, Some, None, IfSome, List, ℕ, take, refl, sym, ap}
+use Rattle.std.proofs.Common.{◌≡◌, ◌∙◌, ◌+◌, ◌*◌, ◌/◌, ◌%◌, Some, None, IfSome, List, ℕ, take, sym, ap}
 use Rattle.vsm_base.specs.declared.places.Vtl.{Vtl}
 use Rattle.vsm_core.specs.Hypercalls.{output_address}
 use Rattle.vsm_core.specs.Outcomes.{Origin}
