@@ -5,8 +5,5 @@ pub mod Polls
 pub mod Puts
 pub mod Sendings
 pub mod Starts
-pub mod Puts
-pub mod Polls
-pub mod Sendings
 pub mod Steps
 pub mod Tables
