@@ -1,5 +1,10 @@
+pub mod Ends
 pub mod Lists
 pub mod Marking
 pub mod Openings
+pub mod Replies
 pub mod Seen
 pub mod Spins
+pub mod Tidy
+pub mod Turning
+pub mod Waking

@@ -1,0 +1,74 @@
+-- A processor that waits for its start, and how it starts.
+use Rattle.std.proofs.Common.{◌≡◌, ◌+◌, ℕ, true, false, Bool, List, [], ◌∷◌, ◌++◌, length, refl, ap, Option, Some, None}
+use Rattle.vsm_core.specs.declared.event.Event.{Event}
+use Rattle.vsm_core.specs.declared.mark.Ending.{Ending}
+use Rattle.vsm_core.specs.declared.mark.What.TheVariants.{Started}
+use Rattle.vsm_core.specs.declared.request.PartCall.TheVariants.{Fetch}
+use Rattle.vsm_core.specs.declared.request.Reply.{Reply}
+use Rattle.vsm_core.specs.declared.request.Request.{Request}
+use Rattle.vsm_core.specs.Hypercalls.{asked_of}
+use Rattle.vsm_core.specs.Outcomes.{Origin, Outcome}
+use Rattle.vsm_core.specs.Processor.{Vp, answers_of, answered, asking, ending_after, origin_of, settled, start_mark, start_rest}
+use Rattle.vsm_core.specs.Seat.{Seat}
+use Rattle.vsm_core.specs.Starts.{start_outcome, start_tree, started_by}
+use Rattle.vsm_core.specs.State.{State}
+use Rattle.vsm_core.specs.Tree.{Tree, Ends, Wants, followed}
+use Rattle.cpu.specs.declared.cpu_turn.CpuTurn.{CpuTurn}
+use Rattle.cpu.specs.declared.cpu_turn.CpuTurn.TheVariants as turns
+use Rattle.cpu.specs.declared.processor.Cpu.TheInside.{Inside}
+use Rattle.cpu.specs.Sound.{IsSound}
+use Rattle.cpu.specs.Turns.{AcceptsBy, IsWaiting, Wakes, after_mark}
+use Rattle.cpu.specs.UnderWay.{Means}
+
+pub known : (i : Inside) → IsSound i → i.started ≡ true → Means i.acting i.state i.under i.heard i.log.seen.0 i.log.part i.log.first
+known i sound is = sound.means is
+
+-- what a start asks for, and what it comes to
+abbrev pub fetches : Origin → Tree Outcome
+fetches from = Wants (asked_of from Fetch) (λ reply. Ends (start_outcome from reply))
+
+after-look : (from : Origin) (seen : List Event) → length seen ≡ 1 → followed (start_tree from) None (answers_of seen 0) ≡ fetches from
+after-look from [] e = cc
+after-look from (x ∷ []) e = refl
+after-look from (x ∷ y ∷ seen) e = cc
+
+before-look : (from : Origin) (seen : List Event) → length seen ≡ 0 → followed (start_tree from) None (answers_of seen 0) ≡ start_tree from
+before-look from [] e = refl
+before-look from (x ∷ seen) e = cc
+
+-- what is left once it has taken its start word, and before
+pub looked-rest : (v : Vp) → IsWaiting v → length v.seen ≡ 1 → start_rest v ≡ fetches (origin_of v)
+looked-rest v w one = rw (w.heard, w.first) (after-look (origin_of v) v.seen one)
+
+pub waiting-rest : (v : Vp) → IsWaiting v → length v.seen ≡ 0 → start_rest v ≡ start_tree (origin_of v)
+waiting-rest v w none = rw (w.heard, w.first) (before-look (origin_of v) v.seen none)
+
+abbrev asking_so : Vp → Vp
+asking_so v = record v { owes = true }
+
+asks-waiting : (v : Vp) → IsWaiting v → asking_so v ≡ asking None v
+asks-waiting v w = rw (w.op, w.again) refl
+
+-- the turn that hands out the request
+pub woken-asks : (v n : Vp) (seat : Seat) (q : Request) → IsWaiting v → length v.seen ≡ 1 → n ≡ asking_so v → q ≡ asked_of (origin_of v) Fetch → Wakes v seat n seat (turns.Wants q)
+woken-asks v n seat q w one en eq = rw (looked-rest v w one) (refl, rw (← asks-waiting v w) en, ap turns.Wants eq)
+
+-- the processor with the mark of its start, in this state, with this ending
+abbrev pub begun_with : Vp → State → Option Ending → Reply → Vp
+begun_with v state ended reply = record v {
+  started = true;
+  state = state;
+  marks = v.marks ++ start_mark v (record (start_outcome (origin_of v) reply) { state = state }) ∷ [];
+  part = length v.seen;
+  first = length v.seen;
+  owes = false;
+  ended = ended;
+}
+
+pub begun-so : (v : Vp) (reply : Reply) (state : State) (ended : Option Ending) → IsWaiting v → state ≡ started_by v.state reply.context → ended ≡ ending_after v Started state (length v.marks + 1) v.spins
+    → begun_with v state ended reply ≡ settled (Ends (start_outcome (origin_of v) reply)) (answered reply v)
+begun-so v reply state ended w same is = rw (is, same, w.op, w.heard, w.again) refl
+
+-- the turn that starts it
+pub begun-by : (v n : Vp) (reply : Reply) (turn : CpuTurn) → IsWaiting v → length v.seen ≡ 1 → n ≡ settled (Ends (start_outcome (origin_of v) reply)) (answered reply v) → turn ≡ after_mark Started n.ended → AcceptsBy (start_rest v) reply v n turn
+begun-by v n reply turn w one en et = rw (looked-rest v w one) (en, et)
