@@ -1,4 +1,3 @@
-pub mod Answered
 pub mod Begins
 pub mod Polls
 pub mod Sendings
