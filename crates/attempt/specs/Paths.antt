@@ -16,7 +16,6 @@ use Rattle.attempt.specs.declared.place.Place.TheVariants.{Start, Check, TableMa
 use Rattle.attempt.specs.declared.place.Reached.{Reached}
 use Rattle.attempt.specs.declared.place.Reached.TheVariants.{On, Granted, Denied, Fault}
 use Rattle.attempt.specs.declared.place.Walking.{Walking}
-use Rattle.attempt.specs.declared.refusal.Refusal.{Refusal}
 
 -- the access that an aim asks for
 abbrev pub goal_of : Aim → Goal

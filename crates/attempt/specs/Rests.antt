@@ -1,5 +1,5 @@
 -- What is left of an attempt at its stages.
-use Rattle.std.specs.Prelude.{◌≡◌, ℕ, ◌+◌, ◌*◌, ◌/◌, ◌%◌, ◌^◌, ◌<◌, ◌≤◌, Bool, true, false, is_some, Option, Some, None, IfSome, List, ◌++◌, take, drop}
+use Rattle.std.specs.Prelude.{◌≡◌, ℕ, ◌+◌, ◌*◌, ◌/◌, ◌%◌, ◌^◌, ◌<◌, ◌≤◌, true, false, is_some, Option, Some, None, IfSome, List, ◌++◌, take, drop}
 use Rattle.vsm_base.specs.declared.places.Access.TheVariants.{Read, Write}
 use Rattle.vsm_base.specs.declared.name.Name.{Name}
 use Rattle.vsm_core.specs.declared.note.Note.{Note}

@@ -2,8 +2,9 @@
 use Rattle.std.specs.Prelude.{ℕ, Option, None}
 use Rattle.vsm_base.specs.declared.places.Page.{Page}
 use Rattle.attempt.specs.declared.decided.Decided.{Decided}
+use Rattle.attempt.specs.declared.input.Asked.{Asked}
 use Rattle.attempt.specs.declared.plan.Plan.{Plan}
-use Rattle.attempt.specs.declared.stage.Stage.TheVariants.{Make, End}
+use Rattle.attempt.specs.declared.stage.Stage.TheVariants.{Make, Depart, End}
 use Rattle.attempt.specs.declared.under.Under.{Under}
 
 -- no step is planned, but that the assist page is told the reason, where it is on
@@ -21,3 +22,7 @@ made_by u plan decided = record u { plan = plan; stage = Make; decided = decided
 -- once the access is left
 abbrev pub left : Under → Decided → Under
 left u decided = made_by u (only_told None 0) decided
+
+-- once the access is left and the partition has answered this
+abbrev pub departing : Under → Asked → Under
+departing u asked = record u { stage = Depart asked }

@@ -10,7 +10,7 @@ ghost use Rattle.rep_frame.specs.Ends.{end_from};
 ghost use Rattle.attempt.specs.Calls.{header_of};
 ghost use Rattle.attempt.specs.Results.{outcome_of};
 ghost use Rattle.attempt.specs.Slices.{end_place, got_rest};
-ghost use Rattle.attempt.specs.Rests.{rest_of, slice_words, IsHead, StageIs};
+ghost use Rattle.attempt.specs.Rests.{rest_of, slice_words, DecidedIs, IsHead, StageIs};
 ghost use Rattle.attempt.specs.Views.{origin_of};
 
 use crate::decided::Decided;
@@ -39,7 +39,8 @@ struct Output {
 /// How an attempt is decided by what the slice of a call that gets registers comes to, whose elements the frame has counted.
 fn decided_by(frame: &RepFrame, end: SliceEnd) -> Decided
     requires { end_place (end_from end) ≡ frame.now.next }
-    ensures { (from : Origin) (under : Under) → outcome_of from under result ≡ slice_outcome from from.state [] (end_from end) }
+    ensures outcome { (from : Origin) (under : Under) → outcome_of from under result ≡ slice_outcome from from.state [] (end_from end) }
+    ensures is { (from : Origin) (under : Under) → DecidedIs from under result }
 {
     match end {
         SliceEnd::Refused(status, _) => Decided::Replied(frame.finish(status).bits()),
@@ -66,18 +67,17 @@ impl VpState {
         ensures is { StageIs (origin_of self.now) under.new }
         ensures op { under.new.op ≡ under.old.op }
     {
-        let asked = match under.head.call {
-            Call::FlushVirtualAddressSpace => Asked::Flush,
-            Call::FlushVirtualAddressList => Asked::Flush,
-            Call::SendSyntheticClusterIpi => return self.interrupting_inside(under),
-            Call::ModifyVtlProtectionMask => Asked::Modify { length },
-            Call::EnablePartitionVtl => Asked::EnablePartition,
-            Call::EnableVpVtl => Asked::EnableVp,
-            Call::GetVpRegisters => return self.getting(under, length),
-            Call::SetVpRegisters => return self.setting_all(under, length),
-            Call::StartVirtualProcessor => Asked::Start,
-        };
-        under.stage = Stage::Depart { asked };
+        match under.head.call {
+            Call::FlushVirtualAddressSpace => under.depart(Asked::Flush),
+            Call::FlushVirtualAddressList => under.depart(Asked::Flush),
+            Call::SendSyntheticClusterIpi => self.interrupting_inside(under),
+            Call::ModifyVtlProtectionMask => under.depart(Asked::Modify { length }),
+            Call::EnablePartitionVtl => under.depart(Asked::EnablePartition),
+            Call::EnableVpVtl => under.depart(Asked::EnableVp),
+            Call::GetVpRegisters => self.getting(under, length),
+            Call::SetVpRegisters => self.setting_all(under, length),
+            Call::StartVirtualProcessor => under.depart(Asked::Start),
+        }
     }
 
     /// A call that sets registers has read its slice of so many words.

@@ -1,7 +1,7 @@
 // How a hypercall goes on by the reply to its request.
 ghost use Rattle.std.specs.Prelude.{◌≡◌, ◌+◌, ◌<◌, ◌≤◌, take, []};
 ghost use Rattle.vsm_core.specs.Hypercalls.{replied};
-ghost use Rattle.vsm_core.specs.RegisterCalls.{slice_outcome, count_of};
+ghost use Rattle.vsm_core.specs.RegisterCalls.{slice_outcome, count_of, value_words};
 ghost use Rattle.vsm_core.specs.Reps.{replied_end};
 ghost use Rattle.vsm_core.specs.Tree.{Ends};
 ghost use Rattle.attempt.specs.Calls.{by_answer, looked_at, AskedIs};
@@ -18,6 +18,14 @@ use crate::under::Under;
 use hyper_abi::ResultValue;
 use vsm_base::HvStatus;
 use vsm_core::Reply;
+
+/// The words of a value go to the front of an output.
+fn put_pair(output: &mut [u64; 16], value: u64)
+    ensures { take 2 output.new ≡ value_words value }
+{
+    output[0] = value;
+    output[1] = 0;
+}
 
 impl VpState {
     /// A slice of pages is served: the call is refused at an element, goes on at one, or is complete.
@@ -67,8 +75,7 @@ impl VpState {
         let (site, at) = at;
         let status = reply.status;
         let done = reply.done;
-        under.output[0] = reply.value;
-        under.output[1] = 0;
+        put_pair(&mut under.output, reply.value);
         under.make(
             put_words(site.page, at, 2),
             Decided::Replied(ResultValue { status, done }.bits()),

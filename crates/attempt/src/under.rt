@@ -1,10 +1,10 @@
 // An attempt that is under way.
 ghost use Rattle.std.specs.Prelude.{◌≡◌};
-ghost use Rattle.attempt.specs.Unders.{ended, left, made_by};
+ghost use Rattle.attempt.specs.Unders.{departing, ended, left, made_by};
 
 use crate::aim::Aim;
 use crate::decided::Decided;
-use crate::input::Head;
+use crate::input::{Asked, Head};
 use crate::place::{Fill, Path, Place};
 use crate::plan::Plan;
 use crate::plans::nothing;
@@ -127,5 +127,12 @@ impl Under {
         self.plan = nothing(None, 0);
         self.decided = decided;
         self.stage = Stage::Make;
+    }
+
+    /// The access is left, and then this is asked of the partition.
+    pub fn depart(&mut self, asked: Asked)
+        ensures { self.new ≡ departing self.old asked }
+    {
+        self.stage = Stage::Depart { asked };
     }
 }

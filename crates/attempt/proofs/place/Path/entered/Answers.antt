@@ -1,4 +1,4 @@
-use Rattle.std.proofs.Common.{◌≡◌, ◌<◌, ℕ, List, ◌∷◌, ◌++◌, [], ◌+◌, take, slice_set, refl, rules}
+use Rattle.std.proofs.Common.{◌≡◌, ◌∷◌, ◌++◌, [], ◌+◌, take, slice_set, refl, rules}
 use Rattle.std.proofs.lemmas.List.{take_more_set}
 use Rattle.vsm_core.specs.Walk.{Query, walk}
 use Rattle.vsm_core.specs.Access.{query_of}

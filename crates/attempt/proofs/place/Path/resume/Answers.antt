@@ -1,4 +1,3 @@
-use Rattle.std.proofs.Common.{◌≡◌}
 use Rattle.attempt.proofs.place.Path.resume.Goals as goal
 
 pub returns-in-TableRead-clause-rest : goal.returns-in-TableRead-clause-rest
