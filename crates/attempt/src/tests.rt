@@ -1,5 +1,5 @@
 // Attempts over answers that a test gives.
-ghost use Rattle.std.specs.Prelude.{◌≡◌, ◌<◌, ◌≤◌, IfOk, IfTrue};
+ghost use Rattle.std.specs.Prelude.{◌≡◌, ◌<◌, IfOk, true};
 ghost use Rattle.attempt.specs.Asked.{word_step, IsAnswer};
 ghost use Rattle.attempt.specs.Rests.{StageIs};
 ghost use Rattle.attempt.specs.Views.{origin_of};
@@ -66,7 +66,7 @@ fn digit(step: Step) -> u64 {
 
 /// Whether a step may be answered so.
 fn may_answer(step: Step, answer: u64) -> bool
-    ensures { IfTrue result (IsAnswer (word_step step) answer) }
+    ensures { result ≡ true → IsAnswer (word_step step) answer }
 {
     match step {
         Step::Mask { .. } => answer < 16 && Mask::of(answer as u32).is_some(),
