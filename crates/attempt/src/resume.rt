@@ -2,7 +2,7 @@
 ghost use Rattle.std.specs.Prelude.{◌≡◌};
 ghost use Rattle.vsm_core.specs.Attempt.{leaves};
 ghost use Rattle.vsm_core.specs.Tree.{after, then_};
-ghost use Rattle.attempt.specs.Heads.{IsHeadOf};
+ghost use Rattle.attempt.specs.Heads.{IsHeadOf, StandsAt};
 ghost use Rattle.attempt.specs.Asked.{word_step};
 ghost use Rattle.attempt.specs.Nexts.{IsNext, IsAnswerTo};
 ghost use Rattle.attempt.specs.Plans.{PlanIs};
@@ -54,7 +54,8 @@ impl VpState {
     /// What comes next of an attempt.
     pub fn next(&self, under: &Under) -> Next
         requires { StageIs (origin_of self.now) under.now }
-        ensures { IsHeadOf (origin_of self.now) under.now (rest_of (origin_of self.now) under.now) result }
+        ensures head { IsHeadOf (origin_of self.now) under.now (rest_of (origin_of self.now) under.now) result }
+        ensures at { StandsAt result under.now.stage }
     {
         match under.stage {
             Stage::Access => Next::Ask(under.path.next()),
