@@ -1,5 +1,5 @@
 -- The reply that an attempt has had.
-use Rattle.std.proofs.Common.{◌≡◌, ◌≢◌, ◌∙◌, ◌-◌, ◌≤◌, ℕ, suc, List, length, drop, reverse, Option, Some, None, IfSome, refl, ap, sym, arith, Bool, false, length-drop}
+use Rattle.std.proofs.Common.{◌≡◌, ◌≢◌, ◌∙◌, ◌-◌, ◌≤◌, ℕ, suc, List, length, drop, reverse, Option, Some, None, IfSome, refl, ap, sym, subst, arith, Bool, false, length-drop}
 use Rattle.std.proofs.lemmas.List.{length-map, take_all}
 use Rattle.vsm_base.specs.declared.places.Limits.{Limits}
 use Rattle.vsm_core.specs.declared.event.Event.{Event}
@@ -17,7 +17,7 @@ use Rattle.vsm_core.specs.Outcomes.{Origin, Outcome}
 use Rattle.vsm_core.specs.Processor.{Vp, answers_of, answered, rest_of, settled}
 use Rattle.vsm_core.specs.Sound.{Sound, IsOver}
 use Rattle.vsm_core.specs.Steps.{learned}
-use Rattle.vsm_core.specs.Tree.{Tree, Ends, Asks, Wants, WordStep, by_reply, followed}
+use Rattle.vsm_core.specs.Tree.{Tree, Ends, Asks, Wants, WordStep, Counts, by_reply, followed}
 use Rattle.vsm_core.proofs.Bounds.{Counts-reply}
 use Rattle.vsm_core.proofs.Requests.{IsNoAgain, IsOwnRequest, NoAgain, Unasked, own-requests}
 use Rattle.attempt.specs.declared.under.Under.{Under}
@@ -25,7 +25,7 @@ use Rattle.attempt.specs.Rests.{StageIs, rest_of as stage_left}
 use Rattle.attempt.specs.Views.{VpView, origin_of}
 use Rattle.cpu.specs.declared.cpu_turn.CpuTurn.{CpuTurn}
 use Rattle.cpu.specs.Turns.{AcceptsBy, OwesBy, answer_at, after_mark}
-use Rattle.cpu.specs.UnderWay.{IsHeard, IsLate, IsUnderWay, led_to}
+use Rattle.cpu.specs.UnderWay.{IsHeard, IsLate, IsTidy, IsUnderWay, led_to}
 use Rattle.cpu.proofs.Lists.{drop-length}
 use Rattle.cpu.proofs.Tidy.{tidy-reply}
 
@@ -76,6 +76,20 @@ reply-led tree heard seen first reply quiet =
     let long : length seen - first ≡ length answers = sym (length-map (drop first seen) learned ∙ length-drop first seen) in
     rw (quiet, long, take_all (length answers) answers (omega arith), drop-length answers) refl
 
+-- an attempt that is where the events of this operation have led
+pub record HasLed (v : VpView) (op : Op) (next : Under) (heard : Option Heard) (seen : List Event) (part first : ℕ) : Type 0 where
+  pub is : StageIs (origin_of v) next
+  pub rest : stage_left (origin_of v) next ≡ led_to (origin_of v) op heard seen first
+  pub sound : Sound v.limits IsOver (reverse (drop first seen)) (led_to (origin_of v) op heard seen first)
+  pub counts : Counts most_steps (length (drop first seen)) (led_to (origin_of v) op heard seen first)
+  pub hears : IfSome heard (IsHeard (led_to (origin_of v) op heard seen first) (length (drop first seen)))
+  pub tidy : IsTidy part first (led_to (origin_of v) op heard seen first)
+
+pub moved : (v : VpView) (u next : Under) (heard : Option Heard) (seen : List Event) (part first : ℕ) → next.op ≡ u.op → HasLed v u.op next heard seen part first → IsUnderWay v next heard seen part first
+moved v u next heard seen part first op led =
+    let by : HasLed v next.op next heard seen part first = subst (λ (o : Op). HasLed v o next heard seen part first) (sym op) led in
+    record { is = by.is; rest = by.rest; sound = by.sound; counts = by.counts; hears = by.hears; tidy = by.tidy }
+
 sound-reply : (limits : Limits) (es : List Event) (tree : Tree Outcome) (q : Request) (k : Reply → Tree Outcome) (reply : Reply) → tree ≡ Wants q k → Sound limits IsOver es tree → Sound limits IsOver es (by_reply tree reply)
 sound-reply limits es tree q k reply e sound = rw e ((rw e at sound).1 reply)
 
@@ -86,7 +100,7 @@ replied-under v u next heard seen part first q k reply quiet under op is wants r
     let way = rw quiet at under in
     let led = reply-led (attempt (origin_of v) u.op) None seen first reply refl in
     let e : led_to (origin_of v) u.op None seen first ≡ Wants q k = sym way.rest ∙ wants in
-    rw op (record {
+    moved v u next (heard_at seen first reply) seen part first op (record {
       is = is;
       rest = rw (led, e) rest;
       sound = rw led (sound-reply v.limits _ _ q k reply e way.sound);

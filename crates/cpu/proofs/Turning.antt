@@ -37,7 +37,7 @@ use Rattle.cpu.specs.Logs.{first_by, seen_by}
 use Rattle.cpu.specs.Turns.{TurnsBy, answer_at, phase_at}
 use Rattle.cpu.specs.UnderWay.{IsHeard, IsTidy, IsUnchecked, IsUnderWay, Means, led_to, op_of}
 use Rattle.cpu.proofs.Lists.{drop-length}
-use Rattle.cpu.proofs.Replies.{heard-on, heard-within}
+use Rattle.cpu.proofs.Replies.{heard-on, heard-within, moved}
 use Rattle.cpu.proofs.Seen.{own-by, answers-by, phase-by, saw-by, saw_so}
 use Rattle.cpu.proofs.Tidy.{tidy-on}
 
@@ -124,7 +124,7 @@ stepped v u next heard seen part first old new s x e low le phase way on makes e
         more = more;
         phase = phase_now;
       };
-      way = rw op (record {
+      way = moved v u next heard _ part _ op (record {
         is = is;
         rest = rest ∙ ap (λ tree. after tree x) on.is ∙ sym more;
         sound = rw (back, more) (sound-on v.limits _ _ s k x asks way.sound);
@@ -187,7 +187,7 @@ again-few n tree o grant counts ends again =
 -- the turn that hands out a request
 pub wanted-by : (v n : Vp) (op : Op) (q : Request) (k : Reply → Tree Outcome) (seat : Seat) (asked : Request) → rest_of v (Some op) ≡ Wants q k → n ≡ asking (Some op) v → asked ≡ q
     → TurnsBy (rest_of v (Some op)) (Some op) v seat n seat (turns.Wants asked)
-wanted-by v n op q k seat asked e en eq = rw e (refl, en, ap turns.Wants (sym eq))
+wanted-by v n op q k seat asked e en eq = rw e (refl, en, ap turns.Wants eq)
 
 -- an attempt that hasn't come to its end
 abbrev pub IsOpen : Tree Outcome → Type 0

@@ -1,5 +1,6 @@
 -- A processor that waits for its start, and how it starts.
-use Rattle.std.proofs.Common.{◌≡◌, ◌+◌, ℕ, true, false, Bool, List, [], ◌∷◌, ◌++◌, length, refl, ap, Option, Some, None}
+use Rattle.std.proofs.lemmas.Bool.Decides.{nat_tests}
+use Rattle.std.proofs.Common.{◌≡◌, ◌∙◌, ◌==◌, ◌+◌, ℕ, arith, true, false, Bool, List, [], ◌∷◌, ◌++◌, length, refl, ap, Option, Some, None}
 use Rattle.vsm_core.specs.declared.event.Event.{Event}
 use Rattle.vsm_core.specs.declared.mark.Ending.{Ending}
 use Rattle.vsm_core.specs.declared.mark.What.TheVariants.{Started}
@@ -8,11 +9,13 @@ use Rattle.vsm_core.specs.declared.request.Reply.{Reply}
 use Rattle.vsm_core.specs.declared.request.Request.{Request}
 use Rattle.vsm_core.specs.Hypercalls.{asked_of}
 use Rattle.vsm_core.specs.Outcomes.{Origin, Outcome}
-use Rattle.vsm_core.specs.Processor.{Vp, answers_of, answered, asking, ending_after, origin_of, settled, start_mark, start_rest}
-use Rattle.vsm_core.specs.Seat.{Seat}
+use Rattle.vsm_core.specs.Processor.{Vp, answers_of, answered, asking, ending_after, origin_of, saw, settled, start_mark, start_rest}
+use Rattle.vsm_core.specs.Seat.{Seat, Makes}
+use Rattle.vsm_core.specs.Steps.{made}
+use Rattle.vsm_core.specs.declared.event.PendingWord.TheVariants.{Start}
 use Rattle.vsm_core.specs.Starts.{start_outcome, start_tree, started_by}
 use Rattle.vsm_core.specs.State.{State}
-use Rattle.vsm_core.specs.Tree.{Tree, Ends, Wants, followed}
+use Rattle.vsm_core.specs.Tree.{Tree, Ends, Wants, Taking, followed}
 use Rattle.cpu.specs.declared.cpu_turn.CpuTurn.{CpuTurn}
 use Rattle.cpu.specs.declared.cpu_turn.CpuTurn.TheVariants as turns
 use Rattle.cpu.specs.declared.processor.Cpu.TheInside.{Inside}
@@ -72,3 +75,17 @@ begun-so v reply state ended w same is = rw (is, same, w.op, w.heard, w.again) r
 -- the turn that starts it
 pub begun-by : (v n : Vp) (reply : Reply) (turn : CpuTurn) → IsWaiting v → length v.seen ≡ 1 → n ≡ settled (Ends (start_outcome (origin_of v) reply)) (answered reply v) → turn ≡ after_mark Started n.ended → AcceptsBy (start_rest v) reply v n turn
 begun-by v n reply turn w one en et = rw (looked-rest v w one) (en, et)
+
+zero-off : (n : ℕ) → (n ≡ 0 → ⊥) → (n == 0) ≡ false
+zero-off n some = grind (arith, nat_tests)
+
+abbrev took_so : Vp → ℕ → Vp
+took_so v bits = record v { seen = v.seen ++ made (Taking Start) bits ∷ [] }
+
+took-waiting : (v : Vp) (bits : ℕ) → IsWaiting v → took_so v bits ≡ saw None v (made (Taking Start) bits)
+took-waiting v bits w = rw (w.op, w.again) refl
+
+-- the turn that takes the start word, which was posted to
+pub woken-looks : (v n : Vp) (before after : Seat) (bits : ℕ) → IsWaiting v → length v.seen ≡ 0 → Makes before (Taking Start) bits after → (bits ≡ 0 → ⊥) → n ≡ took_so v bits → Wakes v before n after turns.Moved
+woken-looks v n before after bits w none makes some e =
+    rw (waiting-rest v w none) (bits, makes, rw (zero-off bits some) (e ∙ took-waiting v bits w, refl))

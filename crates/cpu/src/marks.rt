@@ -1,18 +1,21 @@
 // The marks that an attempt leaves.
 ghost use Rattle.std.specs.Prelude.{◌≡◌, ◌+◌, ◌^◌, ◌<◌, ◌≤◌, length};
 ghost use Rattle.attempt.specs.Comings.{Comes};
-ghost use Rattle.attempt.specs.Rests.{DecidedIs};
+ghost use Rattle.attempt.specs.Rests.{rest_of, DecidedIs, StageIs};
 ghost use Rattle.attempt.specs.Results.{result_of};
 ghost use Rattle.attempt.specs.Views.{origin_of};
 ghost use Rattle.cpu.specs.Marks.{course_on, log_marked};
+ghost use Rattle.cpu.specs.Logs.{again_in, mark_in};
 ghost use Rattle.cpu.specs.Turns.{after_mark};
+ghost use Rattle.vsm_core.specs.Attempt.{attempt};
+ghost use Rattle.vsm_core.specs.State.{rip_of};
 
 use crate::cpu_turn::{CpuTurn, after_mark};
 use crate::endings::Course;
 use crate::lengths::{Lengths, rip_of};
 use crate::log::Log;
 use attempt::{Under, VpState};
-use vsm_core::What;
+use vsm_core::{Grant, What};
 
 /// Leaves the mark that stays, where an attempt has come to its end, and does to the state what the attempt does.
 pub fn leave_mark(state: &mut VpState, log: &mut Log, under: &Under, lengths: &Lengths) -> CpuTurn
@@ -77,4 +80,21 @@ pub fn leave_start(state: &VpState, log: &mut Log, lengths: &Lengths) -> CpuTurn
     let turn = after_mark(&what, ended);
     log.mark(level, rip, what, ended);
     turn
+}
+
+/// Leaves the mark of a spin that found another value, and begins the attempt anew.
+pub fn leave_again(state: &VpState, under: &mut Under, log: &mut Log, grant: Grant)
+    requires vps { state.now.limits.vps ≤ 8 }
+    requires part { log.old.part ≤ length log.old.seen.0 }
+    requires few { length log.old.seen.0 < 2 ^ 32 }
+    requires marks { length log.old.marks.0 < log.old.marks.1 }
+    requires spins { log.old.spins + 1 < 2 ^ 32 }
+    ensures log { log.new ≡ again_in log.old (mark_in log.old state.now.state.active (rip_of state.now.state) (What.Again grant)) }
+    ensures rest { rest_of (origin_of state.now) under.new ≡ attempt (origin_of state.now) under.old.op }
+    ensures is { StageIs (origin_of state.now) under.new }
+    ensures op { under.new.op ≡ under.old.op }
+{
+    let op = under.op;
+    state.begin(under, op);
+    log.mark_again(state.levels.active(), rip_of(state), grant);
 }

@@ -12,7 +12,7 @@ use crate::cpu_turn::CpuTurn;
 use crate::endings::Course;
 use crate::lengths::{Lengths, rip_of};
 use crate::log::Log;
-use crate::marks::{course_on, leave_mark, leave_start};
+use crate::marks::{course_on, leave_again, leave_mark, leave_start};
 use attempt::{Asked, Next, Under, VpState};
 use fabric::Port;
 use register_file::Bank;
@@ -122,21 +122,14 @@ impl Cpu {
         ensures owes { OwesBy result self.new.owes }
         ensures within { length self.new.marks ≤ self.old.limits.budget }
     {
-        match course_on(&self.state, &self.log, &self.lengths).going_on() {
-            Some(ending) => {
-                self.acting = false;
-                self.log.end_spin(ending);
-                CpuTurn::Ended(ending)
-            }
-            None => {
-                let level = self.state.levels.active();
-                let rip = rip_of(&self.state);
-                let op = self.under.op;
-                self.state.begin(&mut self.under, op);
-                self.log.mark_again(level, rip, grant);
-                CpuTurn::Again
-            }
-        }
+        let ended = course_on(&self.state, &self.log, &self.lengths).going_on();
+        let Some(ending) = ended else {
+            leave_again(&self.state, &mut self.under, &mut self.log, grant);
+            return CpuTurn::Again;
+        };
+        self.acting = false;
+        self.log.end_spin(ending);
+        CpuTurn::Ended(ending)
     }
 
     /// Leaves the mark, if the attempt has come to its end.
