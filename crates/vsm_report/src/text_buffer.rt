@@ -56,14 +56,24 @@ impl TextBuffer {
         Ok(())
     }
 
-    /// Adds text behind what is held, and hands what is held to the sink each time that the buffer is full and
-    /// more comes. `WriteFailed` at the first write that fails: a front of what was held and the text was written.
-    pub fn put<K: Sink>(&mut self, sink: &mut K, text: &[u8]) -> Result<(), WriteFailed>
+    // The same byte by byte, where the text may not fit.
+    fn put_bytes<K: Sink>(&mut self, sink: &mut K, text: &[u8]) -> Result<(), WriteFailed>
         ensures { Gathers (K.taken sink.old) self.old (K.taken sink.new) self.new (K.faults sink.old) (K.faults sink.new) result text.now }
     {
         for byte in text {
             self.push(sink, *byte)?;
         }
         Ok(())
+    }
+
+    /// Adds text behind what is held, and hands what is held to the sink each time that the buffer is full and
+    /// more comes. `WriteFailed` at the first write that fails: a front of what was held and the text was written.
+    pub fn put<K: Sink>(&mut self, sink: &mut K, text: &[u8]) -> Result<(), WriteFailed>
+        ensures { Gathers (K.taken sink.old) self.old (K.taken sink.new) self.new (K.faults sink.old) (K.faults sink.new) result text.now }
+    {
+        match self.bytes.try_extend_from_slice(text) {
+            Ok(()) => Ok(()),
+            Err(_) => self.put_bytes(sink, text),
+        }
     }
 }

@@ -1,6 +1,6 @@
 use Rattle.std.proofs.Common.{Ok, take}
 use Rattle.vsm_report.specs.Gathering.{Gathers}
-use Rattle.vsm_report.proofs.text_buffer.TextBuffer.put.Given as goal
+use Rattle.vsm_report.proofs.text_buffer.TextBuffer.put_bytes.Given as goal
 
 abbrev pub invariant-loop-byte : goal.invariant-loop-byte
 invariant-loop-byte g l =

@@ -2,7 +2,7 @@ use Rattle.std.proofs.Common.{◌+◌, drop, sym, arith}
 use Rattle.std.proofs.lemmas.Result.{err_from_is_err_and}
 use Rattle.std.proofs.lemmas.List.{take_more}
 use Rattle.vsm_report.proofs.Gathering.{gathers_and, gathers_cut, gathers_same, cut_at}
-use Rattle.vsm_report.proofs.text_buffer.TextBuffer.put.Goals as goal
+use Rattle.vsm_report.proofs.text_buffer.TextBuffer.put_bytes.Goals as goal
 
 pub returns-in_err-push : goal.returns-in_err-push
 returns-in_err-push g c =
