@@ -2,9 +2,9 @@ pub mod DigitSteps
 pub mod Example
 pub mod Gathering
 pub mod MaskTurns
-pub mod PageWords
 pub mod Processors
 pub mod Requesting
 pub mod Serving
 pub mod Spelling
 pub mod Stepping
+pub mod StretchWords

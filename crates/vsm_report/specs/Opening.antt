@@ -24,6 +24,6 @@ opening_words s = fold with_word (replicate (word_count s) 0) s.words
 unfoldable pub opening_masks : Script → List ℕ
 opening_masks s = fold with_mask (replicate s.limits.pages 15) s.masks
 
--- a page of a list of words
-pub record IsPage (words : List ℕ) (page : ℕ) (part : List ℕ) : Type 0 where
-  pub same : (i : ℕ) → i < 512 → slice_index part i ≡ slice_index words (512 * page + i)
+-- a stretch of sixteen pages of a list of words
+pub record IsStretch (words : List ℕ) (stretch : ℕ) (part : List ℕ) : Type 0 where
+  pub same : (i : ℕ) → i < 8192 → slice_index part i ≡ slice_index words (8192 * stretch + i)

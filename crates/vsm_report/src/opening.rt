@@ -1,39 +1,39 @@
-// The masks with which a script's run begins, and the memory words, page by page.
+// The masks with which a script's run begins, and the memory words, stretch by stretch.
 ghost use Rattle.std.specs.Prelude.{◌≡◌, ℕ, ◌*◌, ◌/◌, ◌%◌, ◌<◌, List, length, replicate, slice_index};
-ghost use Rattle.vsm_report.specs.Opening.{opening_masks, opening_words, with_mask, with_word, IsPage};
+ghost use Rattle.vsm_report.specs.Opening.{opening_masks, opening_words, with_mask, with_word, IsStretch};
 
 use guest_script::Script;
 use vsm_base::{Mask, Page};
 
-// Writes a given word where it stands in the page and in memory.
-fn give(word: &(Page, u16, u64), pages: u32, page: usize, into: &mut [u64; 512])
-    ensures { (words : List ℕ) → length words ≡ 512 * pages → IsPage words page into.old
-        → IsPage (with_word words word.now) page into.new }
+// Writes a given word where it stands in the stretch and in memory.
+fn give(word: &(Page, u16, u64), pages: u32, stretch: usize, into: &mut [u64; 8192])
+    ensures { (words : List ℕ) → length words ≡ 512 * pages → IsStretch words stretch into.old
+        → IsStretch (with_word words word.now) stretch into.new }
 {
     let at = 512 * word.0.0 as u64 + word.1 as u64;
-    if at / 512 == page as u64 && at < 512 * pages as u64 {
-        into[(at % 512) as usize] = word.2;
+    if at / 8192 == stretch as u64 && at < 512 * pages as u64 {
+        into[(at % 8192) as usize] = word.2;
     }
 }
 
-/// The opening words of a page.
-pub fn opening_page(script: &Script, page: usize) -> [u64; 512]
-    ensures { IsPage (opening_words script.now) page result }
+/// Writes the opening words of a stretch.
+fn fill_stretch(script: &Script, stretch: usize, words: &mut [u64; 8192])
+    ensures { IsStretch (opening_words script.now) stretch words.new }
 {
-    let mut words = [0; 512];
+    *words = [0; 8192];
     for word in script.words.as_slice() {
-        give(word, script.limits.pages, page, &mut words);
+        give(word, script.limits.pages, stretch, words);
     }
-    words
 }
 
-/// Goes on to the opening words of a place's page. Within a page they stand there already.
-pub fn go_on_to(script: &Script, at: usize, words: &mut [u64; 512])
-    requires { 0 < at % 512 → IsPage (opening_words script.now) (at / 512) words.old }
-    ensures { IsPage (opening_words script.now) (at / 512) words.new }
+/// Goes on to the opening words of a place's stretch, which is sixteen pages long, so that the words that a script gives
+/// are looked through once for each. Within a stretch they stand there already.
+pub fn go_on_to(script: &Script, at: usize, words: &mut [u64; 8192])
+    requires { 0 < at % 8192 → IsStretch (opening_words script.now) (at / 8192) words.old }
+    ensures { IsStretch (opening_words script.now) (at / 8192) words.new }
 {
-    if at % 512 == 0 {
-        *words = opening_page(script, at / 512);
+    if at % 8192 == 0 {
+        fill_stretch(script, at / 8192, words);
     }
 }
 

@@ -198,10 +198,10 @@ fn put_words<K: Sink>(
 ) -> Result<(), WriteFailed>
     ensures { Gathers (K.taken sink.old) buffer.old (K.taken sink.new) buffer.new (K.faults sink.old) (K.faults sink.new) result (flat_map (word_text (opening_words script.now) words.now) (range_with_len 0 (length words.now))) }
 {
-    let mut opening = [0u64; 512];
+    let mut opening = [0u64; 8192];
     for at in 0..words.len() {
         go_on_to(script, at, &mut opening);
-        put_word(sink, buffer, at, opening[at % 512], words[at])?;
+        put_word(sink, buffer, at, opening[at % 8192], words[at])?;
     }
     Ok(())
 }

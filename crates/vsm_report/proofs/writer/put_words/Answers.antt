@@ -4,7 +4,7 @@ use Rattle.std.proofs.lemmas.Result.{err_from_is_err_and}
 use Rattle.vsm_report.proofs.Gathering.{gathers_and, gathers_cut, gathers_same}
 use Rattle.vsm_report.specs.Opening.{opening_words}
 use Rattle.vsm_report.specs.Text.{changed_text, word_text}
-use Rattle.vsm_report.proofs.PageWords.{page_at, page_still}
+use Rattle.vsm_report.proofs.StretchWords.{stretch_at, stretch_still}
 use Rattle.vsm_report.proofs.Spelling.{flat_map_range_cut, flat_map_range_more, flat_map_range_all}
 use Rattle.vsm_report.proofs.writer.put_words.Goals as goal
 
@@ -14,7 +14,7 @@ returns-in_err-put_word g c =
     let at = c.loop-at.at in
     let words = c.args.words.now in
     let opening = opening_words c.args.script.now in
-    let e = ap (λ o. changed_text at o (slice_index words at)) (page_at opening c.go_on_to.new.words at c.go_on_to.ensures) in
+    let e = ap (λ o. changed_text at o (slice_index words at)) (stretch_at opening c.go_on_to.new.words at c.go_on_to.ensures) in
     rw p.1 (gathers_same (flat_map_range_cut (word_text opening words) (length words) at (omega arith)) (gathers_cut _ (gathers_and c.loop-at.invariant.text (gathers_same e c.in_err-put_word.ensures))))
 
 pub loop-at-preserved : goal.loop-at-preserved
@@ -22,10 +22,10 @@ loop-at-preserved g c =
     let at = c.loop-at.at in
     let words = c.args.words.now in
     let opening = opening_words c.args.script.now in
-    let e = ap (λ o. changed_text at o (slice_index words at)) (page_at opening c.go_on_to.new.words at c.go_on_to.ensures) in
+    let e = ap (λ o. changed_text at o (slice_index words at)) (stretch_at opening c.go_on_to.new.words at c.go_on_to.ensures) in
     record {
       text = gathers_same (flat_map_range_more (word_text opening words) (length words) at (omega arith)) (gathers_and c.loop-at.invariant.text (gathers_same e c.in_ok-put_word.ensures));
-      page = page_still opening c.go_on_to.new.words at c.go_on_to.ensures;
+      stretch = stretch_still opening c.go_on_to.new.words at c.go_on_to.ensures;
     }
 
 pub returns : goal.returns
