@@ -3,8 +3,13 @@
 
 Usage, at the top of the repository, after `(cd crates/vsm_main && rt run -- trace < ../../examples/...)` has built the
 program: `python3 bench/run.py [PROGRAM]`. It makes its scripts in a temporary folder and prints one line a case: the
-size of the input, the size of the output, the best time of five runs and the peak memory. A peak below this script's own,
-about 18 MiB, isn't seen: the system counts it to the program that it starts.
+size of the input, the size of the output, the best time of five runs, the peak memory, and how many times as fast it is
+as the stored run of the same case. A peak below this script's own, about 18 MiB, isn't seen: the system counts it to the
+program that it starts.
+
+`python3 bench/run.py PROGRAM --store` stores the run of a program in `bench/stored.txt`, a line a case: its name, a tab,
+and its seconds. A ratio says something only on the machine of the stored run, and best in one go: store the older
+program's run first, then measure the newer one.
 """
 import os
 import subprocess
@@ -12,7 +17,10 @@ import sys
 import tempfile
 import time
 
-PROGRAM = sys.argv[1] if len(sys.argv) > 1 else "crates/vsm_main/out/vsm_main"
+STORED = os.path.join(os.path.dirname(os.path.abspath(__file__)), "stored.txt")
+WORDS = [word for word in sys.argv[1:] if word != "--store"]
+STORES = "--store" in sys.argv[1:]
+PROGRAM = WORDS[0] if WORDS else "crates/vsm_main/out/vsm_main"
 RUNS = 5
 PAGES = 256
 # Four tables stand on pages 2 to 5, and map page I at I * 4096 from page 6 on.
@@ -48,6 +56,18 @@ def in_turns(vps, turns):
     """The same with a schedule entry for each turn."""
     line = "schedule " + " ".join(str(vp) for vp in range(vps))
     return script(vps, TABLES, [walker(vp) for vp in range(vps)], [line] * (turns // vps))
+
+
+def paging_off(vps, turns):
+    """Stores and loads of eight processors with paging off, over pages of their own."""
+    bodies = []
+    for vp in range(vps):
+        ops = []
+        for k in range(31):
+            address = (6 + vp * 31 + k) * 4096 + k * 8
+            ops += [f"store {address:#x} {k + 1}", f"load Rax {address:#x}"]
+        bodies.append(ops + ["jump 0"])
+    return script(vps, [], bodies, [f"schedule {' '.join(f'{vp}*{turns // vps}' for vp in range(vps))}"])
 
 
 def spins(turns):
@@ -106,6 +126,7 @@ CASES = [
     ("walks, 1 processor, 10,000 turns", ["trace"], walks(1, 10_000), 0),
     ("walks, an entry a turn, 80,000 turns", ["trace"], in_turns(8, 80_000), 0),
     ("walks, an entry a turn, 40,000 turns", ["trace"], in_turns(8, 40_000), 0),
+    ("paging off, 8 processors, 80,000 turns", ["trace"], paging_off(8, 80_000), 0),
     ("spins in vain, 100,000 turns", ["trace"], spins(100_000), 0),
     ("spins in vain, 50,000 turns", ["trace"], spins(50_000), 0),
     ("rounds over 256 pages, 8 processors, 10,000 turns each", ["trace"], rounds(10_000), 0),
@@ -138,6 +159,19 @@ def run(words, path, out, wanted):
     return seconds, usage.ru_maxrss
 
 
+def stored():
+    """The seconds of each case of the stored run, if there is one."""
+    if not os.path.exists(STORED):
+        return {}
+    with open(STORED) as file:
+        return {name: float(seconds) for name, seconds in (line.rstrip("\n").split("\t") for line in file)}
+
+
+def ratio(before, seconds):
+    return f"{before / seconds:.1f} times as fast" if before else "no stored run"
+
+
+before, kept = stored(), []
 with tempfile.TemporaryDirectory() as folder:
     for name, words, text, wanted in CASES:
         path, out = os.path.join(folder, "script"), os.path.join(folder, "report")
@@ -145,4 +179,8 @@ with tempfile.TemporaryDirectory() as folder:
             file.write(text)
         runs = [run(words, path, out, wanted) for _ in range(RUNS)]
         seconds, peak = min(r[0] for r in runs), max(r[1] for r in runs)
-        print(f"{name}: input {len(text):,} bytes, output {os.path.getsize(out):,} bytes, {seconds:.3f} s, {peak / 1024:.1f} MiB")
+        print(f"{name}: input {len(text):,} bytes, output {os.path.getsize(out):,} bytes, {seconds:.3f} s, {peak / 1024:.1f} MiB, {ratio(before.get(name), seconds)}")
+        kept.append(f"{name}\t{seconds:.4f}\n")
+if STORES:
+    with open(STORED, "w") as file:
+        file.writelines(kept)

@@ -458,6 +458,8 @@ impl Cpu {
 
 #[cfg(test)]
 impl Cpu {
+    ghost use Rattle.vtl_state.specs.States.{state_of};
+
     /// The processor with so many reads of spins behind it that found another value.
     #[tactic(auto, unfolding(vsm_core::specs::Processor::spin_limit))]
     pub fn after_spins(self, spins: u32) -> Cpu
