@@ -95,8 +95,8 @@ abbrev pub stage_rest : Origin → Under → Stage → Tree Outcome
 stage_rest from u Access = then_ (path_rest u.path) (leaves from u.path.aim.gva.0 (granted_of from.state u.op))
 stage_rest from u (Enter inner) = in_access_from (inner_rest from u inner)
 stage_rest from u (Check inner) = Asks Checking (inner_rest from u inner)
-stage_rest from u (Mask site access generation behind) =
-    Asks (Masking (site.address / 4096)) (by_page_mask from access site.address generation (behind_rest from u behind generation))
+stage_rest from u (Mask gate) =
+    Asks (Masking (gate.site.address / 4096)) (by_page_mask from gate.access gate.site.address gate.generation (behind_rest from u gate.behind gate.generation))
 stage_rest from u (Look page matter) = Asks (Reading page.0 0) (by_word from u matter)
 stage_rest from u (Rax page) = Asks (Reading page.0 rax_index) (by_rax from page.0)
 stage_rest from u (Rcx page rax) = Asks (Reading page.0 rcx_index) (by_rcx from rax)
@@ -170,7 +170,7 @@ abbrev pub IsAt : Origin → Under → Stage → Type 0
 IsAt from u Access = IsPlaced u.path
 IsAt from u (Enter inner) = InnerIs from u inner
 IsAt from u (Check inner) = InnerIs from u inner
-IsAt from u (Mask site access generation behind) = BehindIs from u behind
+IsAt from u (Mask gate) = BehindIs from u gate.behind
 IsAt from u (Look page matter) = MatterIs from matter
 IsAt from u (Rax page) = may_return from.state ≡ true
 IsAt from u (Rcx page rax) = may_return from.state ≡ true

@@ -2,7 +2,8 @@
 use vsm_base::Vtl;
 use vsm_core::GuestFault;
 
-/// How an attempt was decided. What that does to the state it does at the mark. The words that it needs stand beside it.
+/// How an attempt was decided. What that does to the state it does at the mark. The words that it needs stand beside
+/// it.
 #[derive(Clone, Copy)]
 pub enum Decided {
     /// The operation makes no step.

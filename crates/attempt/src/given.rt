@@ -36,7 +36,8 @@ struct Output {
     at: u16,
 }
 
-/// How an attempt is decided by what the slice of a call that gets registers comes to, whose elements the frame has counted.
+/// How an attempt is decided by what the slice of a call that gets registers comes to, whose elements the frame has
+/// counted.
 fn decided_by(frame: &RepFrame, end: SliceEnd) -> Decided
     requires { end_place (end_from end) ≡ frame.now.next }
     ensures outcome { (from : Origin) (under : Under) → outcome_of from under result ≡ slice_outcome from from.state [] (end_from end) }
@@ -131,14 +132,11 @@ impl VpState {
         let at = (site.address % 4096 / 8) as u16 + 2 * start;
         let target = target_level(active, &header);
         match look_in(&frame, active, target, &under.slice) {
-            Some(register) => {
-                let asked = Asked::Look {
-                    register,
-                    output: site,
-                    at,
-                };
-                under.stage = Stage::Depart { asked };
-            }
+            Some(register) => under.depart(Asked::Look {
+                register,
+                output: site,
+                at,
+            }),
             None => self.getting_out(
                 under,
                 Output {

@@ -12,7 +12,8 @@ pub struct Head {
     pub output: Option<Site>,
 }
 
-/// Words of a page that are read one after the other: the place of the next, how many are left, and how many were found.
+/// Words of a page that are read one after the other: the place of the next, how many are left, and how many were
+/// found.
 #[derive(Clone, Copy)]
 pub struct Reads {
     pub page: Page,
@@ -48,8 +49,8 @@ pub enum Asked {
     },
 }
 
-/// An interrupt that is posted to one processor after the other, in the order of their numbers: to the next one, and then
-/// to each behind it and below `past` that has its bit.
+/// An interrupt that is posted to one processor after the other, in the order of their numbers: to the next one, and
+/// then to each behind it and below `past` that has its bit.
 #[derive(Clone, Copy)]
 pub struct Sending {
     pub interrupt: Interrupt,

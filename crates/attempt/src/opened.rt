@@ -4,7 +4,7 @@ ghost use Rattle.attempt.specs.Rests.{behind_rest, inner_rest, output_masked, re
 ghost use Rattle.attempt.specs.Views.{origin_of};
 
 use crate::site::Site;
-use crate::stage::{Behind, Inner, Stage};
+use crate::stage::{Behind, Gate, Inner, Stage};
 use crate::state::VpState;
 use crate::under::Under;
 use vsm_base::{Access, Vtl};
@@ -23,12 +23,13 @@ impl VpState {
         };
         match self.levels.active() {
             Vtl::Zero => {
-                under.stage = Stage::Mask {
+                let gate = Gate {
                     site,
                     access: Access::Write,
                     generation,
                     behind: Behind::Words,
                 };
+                under.stage = Stage::Mask { gate };
             }
             Vtl::One => self.words(under),
         }
@@ -57,12 +58,13 @@ impl VpState {
     {
         match self.levels.active() {
             Vtl::Zero => {
-                under.stage = Stage::Mask {
+                let gate = Gate {
                     site: under.head.site,
                     access: Access::Read,
                     generation,
                     behind: Behind::Input,
                 };
+                under.stage = Stage::Mask { gate };
             }
             Vtl::One => self.output(under, generation),
         }
@@ -77,12 +79,13 @@ impl VpState {
     {
         match self.levels.active() {
             Vtl::Zero => {
-                under.stage = Stage::Mask {
+                let gate = Gate {
                     site,
                     access: Access::Write,
                     generation,
                     behind: Behind::Make,
                 };
+                under.stage = Stage::Mask { gate };
             }
             Vtl::One => under.stage = Stage::Make,
         }

@@ -5,8 +5,8 @@ use page_walk::{Translation, Walk};
 use vsm_base::{Mask, Page};
 use vsm_core::GuestFault;
 
-/// Where an access leads: the address page, where that leads, the mask of that page, where one binds, and the generation
-/// that was checked. It is what a cache keeps of an access that walked.
+/// Where an access leads: the address page, where that leads, the mask of that page, where one binds, and the
+/// generation that was checked. It is what a cache keeps of an access that walked.
 #[derive(Clone, Copy)]
 pub struct Fill {
     pub at: u64,
@@ -48,8 +48,8 @@ pub enum Place {
     Data,
 }
 
-/// One access under way: what it is for, how far it has come, the entries that its walk has read, and where it leads, once
-/// that is known.
+/// One access under way: what it is for, how far it has come, the entries that its walk has read, and where it leads,
+/// once that is known.
 #[derive(Clone, Copy)]
 pub struct Path {
     pub aim: Aim,

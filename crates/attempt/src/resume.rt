@@ -17,8 +17,7 @@ use crate::path::mask_of;
 use crate::place::Reached;
 use crate::poll::word_at;
 use crate::refusal::Refusal;
-use crate::site::Site;
-use crate::stage::{Behind, Next, Stage};
+use crate::stage::{Gate, Next, Stage};
 use crate::state::VpState;
 use crate::step::Step;
 use crate::under::Under;
@@ -29,14 +28,6 @@ use vsm_core::PendingWord;
 const RAX: u16 = 2;
 
 const RCX: u16 = 3;
-
-/// Where level 0 meets the mask of a hypercall's page: the page, the access, and what comes behind it.
-#[derive(Clone, Copy)]
-struct Gate {
-    site: Site,
-    access: Access,
-    behind: Behind,
-}
 
 impl VpState {
     /// The next planned step or, where none is left, the leave.
@@ -61,7 +52,9 @@ impl VpState {
             Stage::Access => Next::Ask(under.path.next()),
             Stage::Enter { .. } => Next::Ask(Step::Enter),
             Stage::Check { .. } => Next::Ask(Step::Check),
-            Stage::Mask { site, .. } => Next::Ask(Step::Mask { page: site.page }),
+            Stage::Mask { gate } => Next::Ask(Step::Mask {
+                page: gate.site.page,
+            }),
             Stage::Look { page, .. } => Next::Ask(Step::Read { page, index: 0 }),
             Stage::Rax { page } => Next::Ask(Step::Read { page, index: RAX }),
             Stage::Rcx { page, .. } => Next::Ask(Step::Read { page, index: RCX }),
@@ -95,20 +88,20 @@ impl VpState {
     }
 
     /// The mask of a hypercall's page is known.
-    fn masked(&self, under: &mut Under, gate: Gate, mask: Mask, generation: u64)
+    fn masked(&self, under: &mut Under, gate: Gate, mask: Mask)
         requires { BehindIs (origin_of self.now) under.old gate.behind }
-        ensures rest { rest_of (origin_of self.now) under.new ≡ by_page_mask (origin_of self.now) gate.access gate.site.address generation (behind_rest (origin_of self.now) under.old gate.behind generation) mask }
+        ensures rest { rest_of (origin_of self.now) under.new ≡ by_page_mask (origin_of self.now) gate.access gate.site.address gate.generation (behind_rest (origin_of self.now) under.old gate.behind gate.generation) mask }
         ensures is { StageIs (origin_of self.now) under.new }
         ensures op { under.new.op ≡ under.old.op }
     {
         if mask.allows(gate.access) {
-            self.behind(under, gate.behind, generation);
+            self.behind(under, gate.behind, gate.generation);
             return;
         }
         let refusal = Refusal {
             page: gate.site.page,
             mask,
-            generation,
+            generation: gate.generation,
             access: gate.access,
             gva: None,
             gpa: gate.site.address,
@@ -145,19 +138,7 @@ impl VpState {
             }
             Stage::Enter { inner } => under.stage = Stage::Check { inner },
             Stage::Check { inner } => self.opened(under, inner, answer),
-            Stage::Mask {
-                site,
-                access,
-                generation,
-                behind,
-            } => {
-                let gate = Gate {
-                    site,
-                    access,
-                    behind,
-                };
-                self.masked(under, gate, mask_of(answer), generation);
-            }
+            Stage::Mask { gate } => self.masked(under, gate, mask_of(answer)),
             Stage::Look { matter, .. } => self.found(under, matter, answer),
             Stage::Rax { page } => under.stage = Stage::Rcx { page, rax: answer },
             Stage::Rcx { rax, .. } => under.leave(Decided::Returned(Some((rax, answer)))),

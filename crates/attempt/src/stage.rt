@@ -41,70 +41,49 @@ pub enum Behind {
     Make,
 }
 
+/// Where level 0 meets the mask of a hypercall's page: the place, the access, the generation that was checked, and what
+/// comes behind it.
+#[derive(Clone, Copy)]
+pub struct Gate {
+    pub site: Site,
+    pub access: Access,
+    pub generation: u64,
+    pub behind: Behind,
+}
+
 /// How far an attempt has come: each stage is one step that comes next, and what is done by its answer.
 #[derive(Clone, Copy)]
 pub enum Stage {
     /// Its access is under way.
     Access,
     /// An access of its own is entered.
-    Enter {
-        inner: Inner,
-    },
+    Enter { inner: Inner },
     /// The generation is checked.
-    Check {
-        inner: Inner,
-    },
+    Check { inner: Inner },
     /// At level 0 the mask of a hypercall's page is loaded.
-    Mask {
-        site: Site,
-        access: Access,
-        generation: u64,
-        behind: Behind,
-    },
+    Mask { gate: Gate },
     /// The first word of the message slot is read.
-    Look {
-        page: Page,
-        matter: Matter,
-    },
+    Look { page: Page, matter: Matter },
     /// A return reads what becomes RAX, and then what becomes RCX.
-    Rax {
-        page: Page,
-    },
+    Rax { page: Page },
     /// A return has read what becomes RAX.
-    Rcx {
-        page: Page,
-        rax: u64,
-    },
+    Rcx { page: Page, rax: u64 },
     /// The next word of a hypercall's header is read.
-    Header {
-        reads: Reads,
-    },
+    Header { reads: Reads },
     /// The next word of a hypercall's slice is read.
-    Slice {
-        reads: Reads,
-    },
+    Slice { reads: Reads },
     /// The next planned step is made or, where none is left, the access is left.
     Make,
     /// A poll takes the next of its words; it has taken so many.
-    Take {
-        count: u8,
-    },
+    Take { count: u8 },
     /// The access is left, and then this is asked of the partition.
-    Depart {
-        asked: Asked,
-    },
+    Depart { asked: Asked },
     /// This is asked of the partition; no step comes next.
-    Want {
-        asked: Asked,
-    },
+    Want { asked: Asked },
     /// The access is left, and then an interrupt is posted.
-    Quit {
-        sending: Sending,
-    },
+    Quit { sending: Sending },
     /// An interrupt is posted to the next processor.
-    Send {
-        sending: Sending,
-    },
+    Send { sending: Sending },
     /// It was decided; no step comes next.
     End,
 }

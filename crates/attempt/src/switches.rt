@@ -68,8 +68,8 @@ impl VpState {
             || name.general()
     }
 
-    /// Level 1 is told of the register of the operation, which it intercepts, in an access of its own where that touches
-    /// words.
+    /// Level 1 is told of the register of the operation, which it intercepts, in an access of its own where that
+    /// touches words.
     fn intercepting(&self, under: &mut Under)
         requires { may_enter_lem self.now.state ≡ true }
         ensures rest { rest_of (origin_of self.now) under.new ≡ intercepted (origin_of self.now) (hit_note (origin_of self.now) under.old.op) }

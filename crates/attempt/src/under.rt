@@ -18,8 +18,8 @@ use vsm_core::Op;
 
 /// An attempt of an operation that is under way: how far it has come, and what its stage and its end need of what was
 /// found before. The access that it makes, what was denied, the call that it makes and the steps that are planned are
-/// known where its stage names them. `header` and `slice` have the words of a hypercall's input, `taken` those of a poll,
-/// and `output` the words that planned steps write.
+/// known where its stage names them. `header` and `slice` have the words of a hypercall's input, `taken` those of a
+/// poll, and `output` the words that planned steps write.
 #[derive(Drop)]
 pub struct Under {
     pub op: Op,

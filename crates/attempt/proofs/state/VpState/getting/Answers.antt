@@ -1,5 +1,6 @@
-use Rattle.std.proofs.Common.{◌≡◌, ◌∙◌, ◌+◌, ◌*◌, ◌/◌, ◌%◌, Some, None, IfSome, List, ℕ, take, sym, ap}
+use Rattle.std.proofs.Common.{◌≡◌, ◌∙◌, ◌+◌, ◌*◌, ◌/◌, ◌%◌, Some, None, IfSome, List, ℕ, take, sym, ap, subst}
 use Rattle.vsm_base.specs.declared.places.Vtl.{Vtl}
+use Rattle.vsm_core.specs.Attempt.{gets_by}
 use Rattle.vsm_core.specs.Hypercalls.{output_address}
 use Rattle.vsm_core.specs.Outcomes.{Origin}
 use Rattle.vsm_core.specs.RegisterCalls.{count_of, header_refusal, look_in, start_of}
@@ -8,6 +9,8 @@ use Rattle.rep_frame.specs.Asks.{look_call, look_calls}
 use Rattle.rep_frame.specs.Frames.{frame_of}
 use Rattle.rep_frame.specs.Slices.{slice_numbers}
 use Rattle.attempt.specs.declared.site.Site.{Site}
+use Rattle.attempt.specs.declared.under.Under.{Under}
+use Rattle.attempt.specs.Rests.{rest_of}
 use Rattle.attempt.specs.Views.{VpView, origin_of}
 use Rattle.attempt.proofs.Inputs.{gets-asks}
 use Rattle.attempt.proofs.state.VpState.getting.Goals as goal
@@ -28,4 +31,5 @@ returns-in-Some-look_in-clause-rest c =
     let look : look_in from.state.active target (count_of from) (slice_numbers (frame_of (count_of from) (start_of from)) slice) ≡ Some (look_call register) = rw (← c.elements-start.ensures.start, ← c.elements-start.ensures.count, ← active) (sym told) in
     let put : IfSome c.args.under.now.head.output (λ (s : Site). s.address ≡ output_address from.state) = c.requires.head.output in
     let here : site.address ≡ output_address from.state = rw c.in-Some.is at put in
-    gets-asks from c.args.under.now header slice _ target c.args.length _ register site fine level c.requires.all look here (ap (λ s. site.address % 4096 / 8 + 2 * s) c.elements-start.ensures.start)
+    subst (λ (u : Under). rest_of from u ≡ gets_by from header (take c.args.length slice) (header_refusal from header)) (sym c.depart.ensures)
+    (gets-asks from c.args.under.now header slice _ target c.args.length _ register site fine level c.requires.all look here (ap (λ s. site.address % 4096 / 8 + 2 * s) c.elements-start.ensures.start))
