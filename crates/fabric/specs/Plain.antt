@@ -63,6 +63,7 @@ first_seat name vp plain = record {
   last = None;
   steps = 0;
   told = Some plain.fabric;
+  known = None;
 }
 
 -- a way of the partition to the fabric, before its first step
@@ -75,6 +76,7 @@ first_stand name plain = record {
   last = None;
   steps = 0;
   told = Some plain.fabric;
+  known = None;
 }
 
 -- the fabric after one of the partition's steps

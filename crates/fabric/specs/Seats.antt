@@ -1,5 +1,5 @@
 -- What is known of the ways to a plain fabric.
-use Rattle.std.specs.Prelude.{Some, get_or}
+use Rattle.std.specs.Prelude.{None, Some, get_or}
 use Rattle.vsm_core.specs.declared.event.Phase.TheVariants.{Idle}
 use Rattle.vsm_core.specs.Seat.{Seat}
 use Rattle.vsm_core.specs.Stand.{Stand}
@@ -15,6 +15,7 @@ plain_seat p = record {
   last = p.last;
   steps = p.steps;
   told = Some p.fabric.now.fabric;
+  known = None;
 }
 
 abbrev pub plain_stand : PlainSteward → Stand
@@ -26,4 +27,5 @@ plain_stand s = record {
   last = s.last;
   steps = s.steps;
   told = Some s.fabric.now.fabric;
+  known = None;
 }

@@ -31,6 +31,13 @@ impl PlainPort<'_> {
             steps: 0,
         }
     }
+
+    /// The event of the last step that was made through this port, if one was.
+    pub fn last(&self) -> Option<Event>
+        ensures { result ≡ (plain_seat self.now).last }
+    {
+        self.last
+    }
 }
 
 impl Port for PlainPort<'_> {

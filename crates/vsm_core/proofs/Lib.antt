@@ -10,6 +10,7 @@ pub mod KeptRegisters
 pub mod Places
 pub mod Requests
 pub mod SameAnswers
+pub mod Servable
 pub mod ServedBlocks
 pub mod Slices
 pub mod Soundness

@@ -1,9 +1,10 @@
 -- What is known of a processor's way to the shared words, and what a step through it changes.
-use Rattle.std.specs.Prelude.{◌≡◌, ℕ, ◌+◌, ◌-◌, ◌^◌, ◌<◌, Option, Some, None, List, slice_set, if◌then◌else◌, nat_lt}
+use Rattle.std.specs.Prelude.{◌≡◌, ℕ, ◌+◌, ◌-◌, ◌^◌, ◌<◌, Option, Some, None, List, slice_set, if◌then◌else◌, nat_lt, ◌∷◌}
 use Rattle.vsm_base.specs.declared.places.Limits.{Limits}
 use Rattle.vsm_core.specs.declared.event.Event.{Event}
 use Rattle.vsm_core.specs.declared.event.Phase.{Phase}
 use Rattle.vsm_core.specs.Steps.{made, learned, phase_after, MayStep}
+use Rattle.vsm_core.specs.declared.view.ProcessorView.{ProcessorView}
 use Rattle.vsm_core.specs.Tree.{WordStep}
 use Rattle.vsm_core.specs.Words.{answer_of, words_by}
 
@@ -16,7 +17,8 @@ pub record Fabric : Type 0 where
   pub cleared : ℕ
 
 -- what is known of a port: the ghost name of what it borrows, whose it is, the limits, the processor's phase, the last
--- event, how many steps were made, and what its fabric tells, where it does
+-- event, how many steps were made, what its fabric tells, where it does, and what a fabric that many threads share knows
+-- of its processor's view
 pub record Seat : Type 0 where
   pub name : ℕ
   pub vp : ℕ
@@ -25,6 +27,12 @@ pub record Seat : Type 0 where
   pub last : Option Event
   pub steps : ℕ
   pub told : Option Fabric
+  pub known : Option ProcessorView
+
+-- what is known of a processor's view after one more of its events
+abbrev pub knows_after : Event → Option ProcessorView → Option ProcessorView
+knows_after e None = None
+knows_after e (Some t) = Some (record t { past = e ∷ t.past })
 
 -- a count that stays at its last value
 unfoldable pub counted : ℕ → ℕ
@@ -47,6 +55,7 @@ seat_after seat s x = record {
   last = Some (made s x);
   steps = counted seat.steps;
   told = told_after seat.limits seat.vp (phase_after seat.phase s x) s seat.told;
+  known = knows_after (made s x) seat.known;
 }
 
 abbrev pub IsToldAnswer : Limits → ℕ → WordStep → ℕ → Option Fabric → Type 0

@@ -1,15 +1,19 @@
 -- What is known of the partition's way to the shared words, and what a step through it changes.
-use Rattle.std.specs.Prelude.{◌≡◌, ℕ, ◌+◌, ◌-◌, ◌^◌, ◌<◌, Bool, true, false, not, ◌==◌, Option, Some, None, List, bit_or, slice_index, slice_set}
+use Rattle.std.specs.Prelude.{◌≡◌, ℕ, ◌+◌, ◌-◌, ◌^◌, ◌<◌, Bool, true, false, not, ◌==◌, Option, Some, None, List, bit_or, slice_index, slice_set, ◌∷◌}
 use Rattle.vsm_base.specs.declared.places.Limits.{Limits}
+use Rattle.vsm_base.specs.declared.places.VpIndex.{VpIndex}
 use Rattle.vsm_core.specs.declared.event.Event.{Event}
 use Rattle.vsm_core.specs.declared.event.Event.TheVariants as events
 use Rattle.vsm_core.specs.declared.event.PendingWord.TheVariants.{Start}
+use Rattle.vsm_core.specs.declared.view.PartitionView.{PartitionView}
+use Rattle.vsm_core.specs.declared.view.Turning.TheVariants as turnings
 use Rattle.vsm_core.specs.Seat.{Fabric, counted}
 use Rattle.vsm_core.specs.Whole.{posted_place}
 use Rattle.vsm_core.specs.Words.{generation_at, busy_at, posted_at}
 
 -- what is known of a steward: the ghost name of what it borrows, the limits, how often the generation was turned and
--- how many processors were cleared since, the last event, how many steps were made, and what its fabric tells, where it does
+-- how many processors were cleared since, the last event, how many steps were made, what its fabric tells, where it does,
+-- and what a fabric that many threads share knows of the partition's view
 pub record Stand : Type 0 where
   pub name : ℕ
   pub limits : Limits
@@ -18,6 +22,7 @@ pub record Stand : Type 0 where
   pub last : Option Event
   pub steps : ℕ
   pub told : Option Fabric
+  pub known : Option PartitionView
 
 -- the start word of a processor
 abbrev pub start_at : Limits → ℕ → ℕ
@@ -54,6 +59,22 @@ abbrev pub told_with : Limits → Option Fabric → Event → Option Fabric
 told_with limits None e = None
 told_with limits (Some fabric) e = Some (fabric_with limits fabric e)
 
+-- what is known of the partition's view after one more of its steps
+abbrev pub cleared_in : Bool → VpIndex → PartitionView → PartitionView
+cleared_in true vp q = q
+cleared_in false vp q = record q { past = turnings.Clear vp ∷ q.past }
+
+abbrev pub view_with : PartitionView → Event → PartitionView
+view_with q (events.Ask page mask) = record q { past = turnings.Ask page mask ∷ q.past }
+view_with q (events.Turn round) = record q { past = turnings.Turn ∷ q.past }
+view_with q (events.Clear vp busy) = cleared_in busy vp q
+view_with q (events.Post vp word bits) = record q { posts = vp ∷ q.posts }
+view_with q _ = q
+
+abbrev pub known_with : Option PartitionView → Event → Option PartitionView
+known_with None e = None
+known_with (Some q) e = Some (view_with q e)
+
 -- the steward after a step
 abbrev pub stand_after : Stand → Event → Stand
 stand_after stand e = record {
@@ -64,6 +85,7 @@ stand_after stand e = record {
   last = Some e;
   steps = counted stand.steps;
   told = told_with stand.limits stand.told e;
+  known = known_with stand.known e;
 }
 
 -- a turn makes the next round

@@ -1,4 +1,6 @@
 // Requests to the partition.
+ghost use Rattle.std.specs.Prelude.{◌≡◌};
+
 use crate::Ending;
 use arrayvec::ArrayVec;
 use vsm_base::{HvStatus, VpIndex, Vtl};
@@ -39,6 +41,58 @@ pub struct Request {
     pub by: VpIndex,
     pub level: Vtl,
     pub call: PartCall,
+}
+
+/// The same pages once more.
+fn same_pages(pages: &ArrayVec<u64, 8>) -> ArrayVec<u64, 8>
+    ensures { result ≡ pages.now }
+{
+    let Ok(same) = pages.clone() else {
+        unreachable!()
+    };
+    same
+}
+
+impl PartCall {
+    /// The same call once more.
+    pub fn again(&self) -> PartCall
+        ensures { result ≡ self.now }
+    {
+        match self {
+            PartCall::EnablePartition(words) => PartCall::EnablePartition(*words),
+            PartCall::EnableVp(words) => PartCall::EnableVp(*words),
+            PartCall::Start(words) => PartCall::Start(*words),
+            PartCall::Modify {
+                header,
+                pages,
+                start,
+                total,
+            } => PartCall::Modify {
+                header: *header,
+                pages: same_pages(pages),
+                start: *start,
+                total: *total,
+            },
+            PartCall::Flush { total } => PartCall::Flush { total: *total },
+            PartCall::ReadStatus => PartCall::ReadStatus,
+            PartCall::ReadConfig => PartCall::ReadConfig,
+            PartCall::WriteConfig(value) => PartCall::WriteConfig(*value),
+            PartCall::Fetch => PartCall::Fetch,
+        }
+    }
+}
+
+impl Request {
+    /// The same request once more: one copy can be served, while the other is kept to tell what was served.
+    pub fn again(&self) -> Request
+        ensures { result ≡ self.now }
+    {
+        Request {
+            by: self.by,
+            level: self.level,
+            call: self.call.again(),
+        }
+    }
 }
 
 /// The partition's reply.

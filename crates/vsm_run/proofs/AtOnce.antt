@@ -22,7 +22,7 @@ use Rattle.partition.specs.Turns.{Adds, Turns, TurnsBy, ServesIf, Waits}
 use Rattle.partition.specs.declared.turn.PartTurn.{PartTurn}
 use Rattle.partition.specs.declared.turn.PartTurn.TheVariants.{Moved, Busy, Done}
 use Rattle.vsm_run.specs.Serving.{IsFree, NoneBusy, with_served}
-use Rattle.vsm_run.proofs.Blocks.{AllReach, Reaches, servable}
+use Rattle.vsm_core.proofs.Servable.{AllReach, Reaches, servable}
 use Rattle.vsm_run.proofs.Wholes.{same-some}
 
 abbrev pub entries_left : Option Doing → List Entry

@@ -2,7 +2,6 @@ pub mod Acts
 pub mod Asking
 pub mod AtOnce
 pub mod Attempts
-pub mod Blocks
 pub mod Budgets
 mod BusyWords
 pub mod Finishes
