@@ -1,6 +1,7 @@
 //! The language of scripts: what a script says, its reader and its printer, and large scripts from a number.
 #![tactic(auto)]
 
+mod again;
 mod fields;
 mod keyword;
 mod maker;

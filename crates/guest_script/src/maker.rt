@@ -85,7 +85,8 @@ fn access_of(vp: u8, number: u64, x: u64) -> Op
     }
 }
 
-fn push_all<T: Copy>(items: &mut Items<T>, more: &[T]) -> Result<(), AllocError>
+// Adds items at the end.
+pub fn push_all<T: Copy>(items: &mut Items<T>, more: &[T]) -> Result<(), AllocError>
     ensures { OnOk result (items.new ≡ items.old ++ more.now) }
 {
     for item in more {

@@ -63,6 +63,16 @@ fn made_scripts_are_printed_and_read_again(rt: HostRuntime) -> Result<(), Fail> 
     Ok(())
 }
 
+#[test]
+fn a_script_once_more_is_the_same(rt: HostRuntime) -> Result<(), Fail> {
+    let script = read(rt.alloc(), SCRIPT)?;
+    let again = script.again(rt.alloc())?;
+    assert!(rt; is_same(&again, &script));
+    let text = print(rt.alloc(), &again)?;
+    assert_eq!(rt; text.as_slice(), TEXT);
+    Ok(())
+}
+
 // The operations of a processor's level 0.
 fn level_0(script: &Script, vp: usize) -> &[Op] {
     match script.programs.as_slice().get(vp) {
