@@ -1,6 +1,6 @@
 -- Texts that are gathered one after another.
 use Rattle.std.proofs.Common.{◌≡◌, ℕ, ◌+◌, ◌<◌, List, [], ◌∷◌, ◌++◌, length, take, drop, get_or, Option, Result, Ok, Err, sym, ap, subst, ◌∙◌, append_assoc, arith}
-use Rattle.std.proofs.lemmas.List.{take_more, take-append-drop}
+use Rattle.std.proofs.lemmas.List.{append-nil, take_more, take-append-drop}
 use Rattle.std.specs.Io.KnownBytes.{append_known}
 use Rattle.vsm_base.specs.Whole.{Puts, AppendsFront}
 use Rattle.vsm_report.specs.Gathering.{Gathers, Passes}
@@ -55,3 +55,14 @@ gathers_stuck {a} {b} {h} t p = record { whole = tt; front = front_more a b h t 
 -- a list in three: before a place, the place, and after it
 pub cut_at : (xs : List ℕ) (i : ℕ) → i < length xs → (take i xs ++ get_or xs i 0 ∷ []) ++ drop (i + 1) xs ≡ xs
 cut_at xs i l = ap (λ x. x ++ drop (i + 1) xs) (sym (take_more xs i 0 l)) ∙ take-append-drop (i + 1) xs
+
+-- one text added, and then another
+pub added_then : (a s t : List ℕ) {b c : List ℕ} → b ≡ a ++ s → c ≡ b ++ t → c ≡ a ++ (s ++ t)
+added_then a s t {b} {c} e f = f ∙ ap (λ x. x ++ t) e ∙ append_assoc a s t
+
+-- nothing gathered, and then a text added
+pub gathers_added : {a b : Option (List ℕ)} {h k m : List ℕ} {i j : ℕ} {x : Unit {0}} {s : List ℕ} → Gathers a h b k i j (Ok x) [] → m ≡ k ++ s → Gathers a h b m i j (Ok x) s
+gathers_added {a} {b} {h} {k} {m} {i} {j} {x} {s} p e =
+    let w = p.whole in
+    let f : w.0 ++ m ≡ h ++ s = ap (λ y. w.0 ++ y) e ∙ sym (append_assoc w.0 k s) ∙ ap (λ y. y ++ s) (w.2 ∙ append-nil h) in
+    record { whole = (w.0, w.1, f); front = tt; later = p.later; risen = tt }

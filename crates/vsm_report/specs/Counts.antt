@@ -1,5 +1,5 @@
 -- A run in numbers.
-use Rattle.std.specs.Prelude.{ℕ, List, length, Bool, true, false, not, ◌&&◌}
+use Rattle.std.specs.Prelude.{ℕ, List, length, Bool, true, false}
 use Rattle.std.specs.List.{filter}
 use Rattle.vsm_core.specs.declared.journal.Entry.{Entry}
 use Rattle.vsm_core.specs.declared.journal.Entry.TheVariants as entries

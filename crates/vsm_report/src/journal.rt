@@ -1,4 +1,5 @@
 // The lines of the journal's entries.
+ghost use Rattle.std.specs.Prelude.{◌≡◌, ◌+◌, ◌≤◌, ◌++◌, length};
 ghost use Rattle.vsm_report.specs.Gathering.{Gathers};
 ghost use Rattle.vsm_report.specs.Journal.{one_text, two_text, entry_text};
 
@@ -8,19 +9,40 @@ use crate::words::level_number;
 use vsm_base::{HvStatus, Sink, VpIndex, Vtl, WriteFailed};
 use vsm_core::Entry;
 
+// Adds a line of a number, where there is room.
+fn add_one(buffer: &mut TextBuffer, head: &[u8], n: u64)
+    requires { length buffer.old + length head.now + 21 ≤ 4096 }
+    ensures { buffer.new ≡ buffer.old ++ one_text head.now n }
+{
+    buffer.add(head);
+    buffer.add_decimal(n);
+    buffer.add_byte(b'\n');
+}
+
 fn put_one<K: Sink>(
     sink: &mut K,
     buffer: &mut TextBuffer,
     head: &[u8],
     n: u64,
 ) -> Result<(), WriteFailed>
+    requires { length head.now ≤ 9 }
     ensures { Gathers (K.taken sink.old) buffer.old (K.taken sink.new) buffer.new (K.faults sink.old) (K.faults sink.new) result (one_text head.now n) }
 {
-    put_pieces(
-        sink,
-        buffer,
-        &[Piece::Text(head), Piece::Decimal(n), Piece::Text(b"\n")],
-    )
+    buffer.make_room(sink, 30)?;
+    add_one(buffer, head, n);
+    Ok(())
+}
+
+// Adds a line of two numbers, where there is room.
+fn add_two(buffer: &mut TextBuffer, head: &[u8], n: u64, m: u64)
+    requires { length buffer.old + length head.now + 42 ≤ 4096 }
+    ensures { buffer.new ≡ buffer.old ++ two_text head.now n m }
+{
+    buffer.add(head);
+    buffer.add_decimal(n);
+    buffer.add_byte(b' ');
+    buffer.add_decimal(m);
+    buffer.add_byte(b'\n');
 }
 
 fn put_two<K: Sink>(
@@ -30,19 +52,12 @@ fn put_two<K: Sink>(
     n: u64,
     m: u64,
 ) -> Result<(), WriteFailed>
+    requires { length head.now ≤ 9 }
     ensures { Gathers (K.taken sink.old) buffer.old (K.taken sink.new) buffer.new (K.faults sink.old) (K.faults sink.new) result (two_text head.now n m) }
 {
-    put_pieces(
-        sink,
-        buffer,
-        &[
-            Piece::Text(head),
-            Piece::Decimal(n),
-            Piece::Text(b" "),
-            Piece::Decimal(m),
-            Piece::Text(b"\n"),
-        ],
-    )
+    buffer.make_room(sink, 51)?;
+    add_two(buffer, head, n, m);
+    Ok(())
 }
 
 fn put_config<K: Sink>(

@@ -1,6 +1,7 @@
 // The lines of marks.
-ghost use Rattle.std.specs.Prelude.{◌≡◌};
+ghost use Rattle.std.specs.Prelude.{◌≡◌, ◌+◌, ◌≤◌, ◌++◌, length};
 ghost use Rattle.vsm_report.specs.Gathering.{Gathers};
+ghost use Rattle.vsm_report.specs.Words.{mask_word};
 ghost use Rattle.vsm_report.specs.Marks.{operation_at, place_text, bare_text, valued_text, granted_text, again_text, denied_text, register_fault_text, fault_text, register_text, value_text, intercept_text, hit_text, part_text, reply_text, entered_text, plain_text, eom_text, what_text, start_text, attempt_text, mark_text};
 
 use crate::pieces::{Piece, put_pieces};
@@ -9,7 +10,7 @@ use crate::words::{
     access_word, eom_word, fault_word, level_number, mask_piece, op_word, posted_word, value_piece,
 };
 use guest_script::Script;
-use vsm_base::{Name, Sink, VpIndex, Vtl, WriteFailed};
+use vsm_base::{Mask, Name, Sink, VpIndex, Vtl, WriteFailed};
 use vsm_core::{Denial, EomWord, Grant, GuestFault, Mark, Op, Posted, What};
 
 #[tactic(auto, unfolding(crate::specs::Marks::operation_at))]
@@ -25,7 +26,21 @@ fn operation_at(script: &Script, vp: VpIndex, mark: &Mark) -> Option<Op>
     operations.get(mark.rip as usize).copied()
 }
 
+// Adds the place of a mark, where there is room.
 #[tactic(auto, unfolding(crate::specs::Marks::place_text))]
+fn add_place(buffer: &mut TextBuffer, vp: VpIndex, mark: &Mark, op: &Op)
+    requires { length buffer.old + 72 ≤ 4096 }
+    ensures { buffer.new ≡ buffer.old ++ place_text vp mark.now op.now }
+{
+    buffer.add_decimal(vp.0 as u64);
+    buffer.add(b".");
+    buffer.add_decimal(level_number(mark.level));
+    buffer.add(b" ");
+    buffer.add_decimal(mark.rip);
+    buffer.add(b" ");
+    buffer.add(op_word(op));
+}
+
 fn put_place<K: Sink>(
     sink: &mut K,
     buffer: &mut TextBuffer,
@@ -35,21 +50,9 @@ fn put_place<K: Sink>(
 ) -> Result<(), WriteFailed>
     ensures { Gathers (K.taken sink.old) buffer.old (K.taken sink.new) buffer.new (K.faults sink.old) (K.faults sink.new) result (place_text vp mark.now op.now) }
 {
-    let level = level_number(mark.level);
-    let word = op_word(op);
-    put_pieces(
-        sink,
-        buffer,
-        &[
-            Piece::Decimal(vp.0 as u64),
-            Piece::Text(b"."),
-            Piece::Decimal(level),
-            Piece::Text(b" "),
-            Piece::Decimal(mark.rip),
-            Piece::Text(b" "),
-            Piece::Text(word),
-        ],
-    )
+    buffer.make_room(sink, 72)?;
+    add_place(buffer, vp, mark, op);
+    Ok(())
 }
 
 // An outcome that has nothing more to tell.
@@ -59,29 +62,46 @@ fn put_bare<K: Sink>(sink: &mut K, buffer: &mut TextBuffer) -> Result<(), WriteF
     buffer.put(sink, b"\n")
 }
 
+// Adds the word of a mask, where there is room.
+fn add_mask(buffer: &mut TextBuffer, mask: Option<Mask>)
+    requires { length buffer.old + 20 ≤ 4096 }
+    ensures text { buffer.new ≡ buffer.old ++ mask_word mask }
+    ensures length { length buffer.new ≤ length buffer.old + 20 }
+{
+    match mask {
+        None => buffer.add_byte(b'-'),
+        Some(mask) => buffer.add_decimal(mask.bits() as u64),
+    }
+}
+
+// Adds what an access that was granted tells, where there is room.
+fn add_valued(buffer: &mut TextBuffer, head: &[u8], grant: &Grant)
+    requires { length buffer.old + length head.now + 97 ≤ 4096 }
+    ensures { buffer.new ≡ buffer.old ++ valued_text head.now grant.now }
+{
+    buffer.add(head);
+    buffer.add_decimal(grant.page.0 as u64);
+    buffer.add(b" mask ");
+    add_mask(buffer, grant.mask);
+    buffer.add(b" gen ");
+    buffer.add_decimal(grant.generation);
+    buffer.add(b" value 0x");
+    buffer.add_hex(grant.value);
+    buffer.add_byte(b'\n');
+}
+
 fn put_valued<K: Sink>(
     sink: &mut K,
     buffer: &mut TextBuffer,
     head: &[u8],
     grant: &Grant,
 ) -> Result<(), WriteFailed>
+    requires { length head.now ≤ 12 }
     ensures { Gathers (K.taken sink.old) buffer.old (K.taken sink.new) buffer.new (K.faults sink.old) (K.faults sink.new) result (valued_text head.now grant.now) }
 {
-    put_pieces(
-        sink,
-        buffer,
-        &[
-            Piece::Text(head),
-            Piece::Decimal(grant.page.0 as u64),
-            Piece::Text(b" mask "),
-            mask_piece(grant.mask),
-            Piece::Text(b" gen "),
-            Piece::Decimal(grant.generation),
-            Piece::Text(b" value 0x"),
-            Piece::Hex(grant.value),
-            Piece::Text(b"\n"),
-        ],
-    )
+    buffer.make_room(sink, 109)?;
+    add_valued(buffer, head, grant);
+    Ok(())
 }
 
 fn put_granted<K: Sink>(

@@ -1,9 +1,11 @@
 // Text that is gathered before it goes to a sink.
-ghost use Rattle.std.specs.Prelude.{◌≡◌, [], ◌∷◌, OnOk, OnErr};
+ghost use Rattle.std.specs.Prelude.{◌≡◌, ◌+◌, ◌≤◌, [], ◌∷◌, ◌++◌, length, OnOk, OnErr};
+ghost use Rattle.std.specs.Fmt.{decimal};
 ghost use Rattle.vsm_base.specs.Whole.{Puts};
 ghost use Rattle.vsm_report.specs.Gathering.{Gathers};
+ghost use Rattle.vsm_report.specs.Pieces.{hex_digits};
 
-use arrayvec::ArrayVec;
+use crate::digits;
 use std::marker::Model;
 use vsm_base::{Sink, WriteFailed, put_whole};
 
@@ -13,15 +15,18 @@ const CAPACITY: usize = 4096;
 /// takes no memory. This project's own.
 #[derive(Drop)]
 pub struct TextBuffer {
-    bytes: ArrayVec<u8, CAPACITY>,
+    bytes: [u8; CAPACITY],
+    held: usize,
 }
 
 impl Model for TextBuffer {
-    ghost use Rattle.std.specs.Prelude.{List, ℕ};
+    ghost use Rattle.std.specs.Prelude.{List, ℕ, ◌≤◌, take};
 
     ghost Value = { List ℕ };
 
-    ghost view = { λ b. b.bytes.items };
+    ghost view = { λ b. take b.held b.bytes };
+
+    ghost invariant = { λ b. b.held ≤ 4096 };
 }
 
 impl TextBuffer {
@@ -30,7 +35,8 @@ impl TextBuffer {
         ensures { result ≡ [] }
     {
         TextBuffer {
-            bytes: ArrayVec::new(),
+            bytes: [0; CAPACITY],
+            held: 0,
         }
     }
 
@@ -41,19 +47,71 @@ impl TextBuffer {
         ensures empty { OnOk result (self.new ≡ []) }
         ensures held { OnErr result (self.new ≡ self.old) }
     {
-        put_whole(sink, self.bytes.as_slice())?;
-        self.bytes.clear();
+        put_whole(sink, &self.bytes[..self.held])?;
+        self.held = 0;
         Ok(())
     }
 
-    fn push<K: Sink>(&mut self, sink: &mut K, byte: u8) -> Result<(), WriteFailed>
-        ensures { Gathers (K.taken sink.old) self.old (K.taken sink.new) self.new (K.faults sink.old) (K.faults sink.new) result (byte ∷ []) }
+    /// Sees to it that there is room for so many bytes more: where there isn't, it hands what is held to the sink.
+    /// `WriteFailed` at the first write that fails, and then a front of what was held was written.
+    pub fn make_room<K: Sink>(&mut self, sink: &mut K, room: usize) -> Result<(), WriteFailed>
+        requires { room ≤ 4096 }
+        ensures gathers { Gathers (K.taken sink.old) self.old (K.taken sink.new) self.new (K.faults sink.old) (K.faults sink.new) result [] }
+        ensures room { OnOk result (length self.new + room ≤ 4096) }
     {
-        if self.bytes.is_full() {
+        if room > CAPACITY - self.held {
             self.flush(sink)?;
         }
-        self.bytes.push(byte);
         Ok(())
+    }
+
+    /// Adds a byte behind what is held, where there is room.
+    pub fn add_byte(&mut self, byte: u8)
+        requires { length self.old + 1 ≤ 4096 }
+        ensures text { self.new ≡ self.old ++ byte ∷ [] }
+        ensures length { length self.new ≡ length self.old + 1 }
+    {
+        self.bytes[self.held] = byte;
+        self.held += 1;
+    }
+
+    /// Adds text behind what is held, where there is room.
+    pub fn add(&mut self, text: &[u8])
+        requires { length self.old + length text.now ≤ 4096 }
+        ensures text { self.new ≡ self.old ++ text.now }
+        ensures length { length self.new ≡ length self.old + length text.now }
+    {
+        let end = self.held + text.len();
+        self.bytes[self.held..end].copy_from_slice(text);
+        self.held = end;
+    }
+
+    /// Adds a number in decimal digits behind what is held, where there is room.
+    pub fn add_decimal(&mut self, n: u64)
+        requires { length self.old + 20 ≤ 4096 }
+        ensures text { self.new ≡ self.old ++ decimal n }
+        ensures length { length self.new ≤ length self.old + 20 }
+    {
+        if n < 10 {
+            return self.add_byte(b'0' + n as u8);
+        }
+        if n < 100 {
+            self.add_byte(b'0' + (n / 10) as u8);
+            return self.add_byte(b'0' + (n % 10) as u8);
+        }
+        let mut digits = itoa::Buffer::new();
+        self.add(digits.format(n).as_bytes());
+    }
+
+    /// Adds the last 16 hexadecimal digits of a number behind what is held, where there is room.
+    pub fn add_hex(&mut self, n: u64)
+        requires { length self.old + 16 ≤ 4096 }
+        ensures text { self.new ≡ self.old ++ hex_digits 16 n }
+        ensures length { length self.new ≡ length self.old + 16 }
+    {
+        let end = self.held + 16;
+        digits::hex(n, &mut self.bytes[self.held..end]);
+        self.held = end;
     }
 
     // The same byte by byte, where the text may not fit.
@@ -61,7 +119,8 @@ impl TextBuffer {
         ensures { Gathers (K.taken sink.old) self.old (K.taken sink.new) self.new (K.faults sink.old) (K.faults sink.new) result text.now }
     {
         for byte in text {
-            self.push(sink, *byte)?;
+            self.make_room(sink, 1)?;
+            self.add_byte(*byte);
         }
         Ok(())
     }
@@ -71,9 +130,10 @@ impl TextBuffer {
     pub fn put<K: Sink>(&mut self, sink: &mut K, text: &[u8]) -> Result<(), WriteFailed>
         ensures { Gathers (K.taken sink.old) self.old (K.taken sink.new) self.new (K.faults sink.old) (K.faults sink.new) result text.now }
     {
-        match self.bytes.try_extend_from_slice(text) {
-            Ok(()) => Ok(()),
-            Err(_) => self.put_bytes(sink, text),
+        if text.len() > CAPACITY - self.held {
+            return self.put_bytes(sink, text);
         }
+        self.add(text);
+        Ok(())
     }
 }

@@ -1,5 +1,5 @@
 // The words that lines are made of.
-ghost use Rattle.std.specs.Prelude.{◌≡◌};
+ghost use Rattle.std.specs.Prelude.{◌≡◌, ◌≤◌, ◌/◌, ◌%◌, ◌^◌, length};
 ghost use Rattle.vsm_base.specs.Levels.{level_number};
 ghost use Rattle.vsm_report.specs.Pieces.{spelled};
 ghost use Rattle.vsm_report.specs.Words.{op_word, access_word, posted_word, eom_word, fault_word, mask_word, is_wide, value_word};
@@ -9,7 +9,8 @@ use vsm_base::{Access, Mask, Name, Vtl};
 use vsm_core::{EomWord, GuestFault, Op, Posted};
 
 pub fn op_word(op: &Op) -> &'static [u8]
-    ensures { result.now ≡ op_word op.now }
+    ensures word { result.now ≡ op_word op.now }
+    ensures short { length result.now ≤ 9 }
 {
     match op {
         Op::Set(_, _) => b"set",
@@ -110,13 +111,25 @@ fn is_wide(name: Name) -> bool
     }
 }
 
+fn upper_half(value: u128) -> u64
+    ensures { result ≡ value / 2 ^ 64 }
+{
+    (value / 0x1_0000_0000_0000_0000) as u64
+}
+
+fn lower_half(value: u128) -> u64
+    ensures { result ≡ value % 2 ^ 64 }
+{
+    (value % 0x1_0000_0000_0000_0000) as u64
+}
+
 /// The digits of a register's value: 32 where the register has 128 bits, and else the last 16.
 pub fn value_piece(name: Name, value: u128) -> Piece<'static>
     ensures { spelled result ≡ value_word name value }
 {
     if is_wide(name) {
-        Piece::Hex32(value)
+        Piece::Hex32(upper_half(value), lower_half(value))
     } else {
-        Piece::Hex((value % 0x1_0000_0000_0000_0000) as u64)
+        Piece::Hex(lower_half(value))
     }
 }
