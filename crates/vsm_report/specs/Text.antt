@@ -52,10 +52,14 @@ changed_mask_text page opening mask =
 abbrev pub mask_text : List ℕ → List ℕ → ℕ → List ℕ
 mask_text opening masks page = changed_mask_text page (slice_index opening page) (slice_index masks page)
 
--- the line of a memory word that differs from its opening value
+-- the line of a memory word
+abbrev pub changed_line : ℕ → ℕ → List ℕ
+changed_line at value =
+    line (codes "word " ∷ decimal (at / 512) ∷ codes ":" ∷ decimal (at % 512) ∷ codes " 0x" ∷ hex_digits 16 value ∷ [])
+
+-- the same where it differs from its opening value
 abbrev pub changed_text : ℕ → ℕ → ℕ → List ℕ
-changed_text at opening value =
-    if opening == value then [] else line (codes "word " ∷ decimal (at / 512) ∷ codes ":" ∷ decimal (at % 512) ∷ codes " 0x" ∷ hex_digits 16 value ∷ [])
+changed_text at opening value = if opening == value then [] else changed_line at value
 
 -- the same by the lists of all opening values and of all values
 abbrev pub word_text : List ℕ → List ℕ → ℕ → List ℕ

@@ -4,7 +4,7 @@ ghost use Rattle.std.specs.List.{flat_map, range_with_len};
 ghost use Rattle.vsm_base.specs.Whole.{Puts};
 ghost use Rattle.vsm_report.specs.Gathering.{Gathers};
 ghost use Rattle.vsm_report.specs.Opening.{opening_masks, opening_words};
-ghost use Rattle.vsm_report.specs.Text.{line_text, end_text_at, ended_text, ending_text, changed_mask_text, mask_text, changed_text, word_text, head_text, lines_text, ends_text, masks_text, words_text, close_text, text};
+ghost use Rattle.vsm_report.specs.Text.{line_text, end_text_at, ended_text, ending_text, changed_mask_text, mask_text, changed_line, changed_text, word_text, head_text, lines_text, ends_text, masks_text, words_text, close_text, text};
 
 use crate::journal::put_entry;
 use crate::marks::put_mark;
@@ -163,18 +163,15 @@ fn put_masks<K: Sink>(
     Ok(())
 }
 
-fn put_word<K: Sink>(
+// It stands apart from the comparison, which is made for each word, since a function clears its pieces each time.
+fn put_changed<K: Sink>(
     sink: &mut K,
     buffer: &mut TextBuffer,
     at: usize,
-    opening: u64,
     value: u64,
 ) -> Result<(), WriteFailed>
-    ensures { Gathers (K.taken sink.old) buffer.old (K.taken sink.new) buffer.new (K.faults sink.old) (K.faults sink.new) result (changed_text at opening value) }
+    ensures { Gathers (K.taken sink.old) buffer.old (K.taken sink.new) buffer.new (K.faults sink.old) (K.faults sink.new) result (changed_line at value) }
 {
-    if opening == value {
-        return Ok(());
-    }
     put_pieces(
         sink,
         buffer,
@@ -188,6 +185,21 @@ fn put_word<K: Sink>(
             Piece::Text(b"\n"),
         ],
     )
+}
+
+fn put_word<K: Sink>(
+    sink: &mut K,
+    buffer: &mut TextBuffer,
+    at: usize,
+    opening: u64,
+    value: u64,
+) -> Result<(), WriteFailed>
+    ensures { Gathers (K.taken sink.old) buffer.old (K.taken sink.new) buffer.new (K.faults sink.old) (K.faults sink.new) result (changed_text at opening value) }
+{
+    if opening == value {
+        return Ok(());
+    }
+    put_changed(sink, buffer, at, value)
 }
 
 fn put_words<K: Sink>(
