@@ -33,8 +33,10 @@ use Rattle.attempt.specs.Results.{result_of}
 use Rattle.attempt.specs.Views.{VpView, origin_of}
 use Rattle.cpu.specs.declared.cpu_turn.CpuTurn.{CpuTurn}
 use Rattle.cpu.specs.declared.cpu_turn.CpuTurn.TheVariants as turns
+use Rattle.cpu.specs.declared.cpu_turn.Pace.{Pace}
+use Rattle.cpu.specs.declared.cpu_turn.Pace.TheVariants as paces
 use Rattle.cpu.specs.Logs.{first_by, seen_by}
-use Rattle.cpu.specs.Turns.{TurnsBy, answer_at, phase_at}
+use Rattle.cpu.specs.Turns.{TurnsBy, after_mark, answer_at, asked_next, asks_by, pace_of, phase_at, request_at, turn_of}
 use Rattle.cpu.specs.UnderWay.{IsHeard, IsTidy, IsUnchecked, IsUnderWay, Means, led_to, op_of}
 use Rattle.cpu.proofs.Lists.{drop-length}
 use Rattle.cpu.proofs.Replies.{heard-on, heard-within, moved}
@@ -183,6 +185,44 @@ again-few n tree o grant counts ends again =
     let h : n ≤ most_steps o = rw ends at counts in
     let most : most_steps o ≡ 13 = ap most_steps_of again in
     omega (arith, h, most)
+
+-- what a processor that has settled answers, whatever comes next
+pub told-mark : (pace : Pace) (what : What) (ended : Option Ending) (asked : Option Request) → pace ≡ pace_of (after_mark what ended) → turn_of pace asked ≡ after_mark what ended
+told-mark pace what (Some ending) asked e = rw e refl
+told-mark pace (whats.Again grant) None asked e = rw e refl
+told-mark pace what None asked e = rw e refl
+
+pub told-turn : (pace : Pace) (tree : Tree Outcome) (ended : Option Ending) (asked : Option Request) → pace ≡ pace_of (answer_at tree ended) → turn_of pace asked ≡ answer_at tree ended
+told-turn pace (Ends o) ended asked e = told-mark pace o.what ended asked e
+told-turn pace (Asks s k) ended asked e = rw e refl
+told-turn pace (Wants q k) ended asked e = rw e refl
+
+-- it asks nothing
+pub quiet-mark : (pace : Pace) (what : What) (ended : Option Ending) → pace ≡ pace_of (after_mark what ended) → asks_by pace ≡ false
+quiet-mark pace what (Some ending) e = rw e refl
+quiet-mark pace (whats.Again grant) None e = rw e refl
+quiet-mark pace what None e = rw e refl
+
+pub quiet-turn : (pace : Pace) (tree : Tree Outcome) (ended : Option Ending) → pace ≡ pace_of (answer_at tree ended) → asks_by pace ≡ false
+quiet-turn pace (Ends o) ended e = quiet-mark pace o.what ended e
+quiet-turn pace (Asks s k) ended e = rw e refl
+quiet-turn pace (Wants q k) ended e = rw e refl
+
+-- the turn of a step that asks nothing
+pub quiet-same : (pace : Pace) (asked : Option Request) → asks_by pace ≡ false → turn_of pace asked ≡ turn_of pace None
+quiet-same paces.Wants asked e = cc
+quiet-same paces.Moved asked e = refl
+quiet-same paces.Idle asked e = refl
+quiet-same paces.Attempt asked e = refl
+quiet-same paces.Again asked e = refl
+quiet-same (paces.Ended ending) asked e = refl
+
+-- the step that comes to a request
+pub wanted-turn : (v n : Vp) (op : Op) (q : Request) (k : Reply → Tree Outcome) (seat : Seat) → rest_of v (Some op) ≡ Wants q k → v.started ≡ true → n ≡ asking (Some op) v → TurnsBy (rest_of v (Some op)) (Some op) v seat n seat (turn_of paces.Wants (asked_next n))
+wanted-turn v n op q k seat e started en =
+    let left : asked_next (asking (Some op) v) ≡ request_at (rest_of v (Some op)) = rw started refl in
+    let asked : asked_next n ≡ Some q = ap asked_next en ∙ left ∙ ap request_at e in
+    rw e (refl, en, ap (turn_of paces.Wants) asked)
 
 -- the turn that hands out a request
 pub wanted-by : (v n : Vp) (op : Op) (q : Request) (k : Reply → Tree Outcome) (seat : Seat) (asked : Request) → rest_of v (Some op) ≡ Wants q k → n ≡ asking (Some op) v → asked ≡ q

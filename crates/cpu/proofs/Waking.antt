@@ -18,9 +18,10 @@ use Rattle.vsm_core.specs.State.{State}
 use Rattle.vsm_core.specs.Tree.{Tree, Ends, Wants, Taking, followed}
 use Rattle.cpu.specs.declared.cpu_turn.CpuTurn.{CpuTurn}
 use Rattle.cpu.specs.declared.cpu_turn.CpuTurn.TheVariants as turns
+use Rattle.cpu.specs.declared.cpu_turn.Pace.TheVariants as paces
 use Rattle.cpu.specs.declared.processor.Cpu.TheInside.{Inside}
 use Rattle.cpu.specs.Sound.{IsSound}
-use Rattle.cpu.specs.Turns.{AcceptsBy, IsWaiting, Wakes, after_mark}
+use Rattle.cpu.specs.Turns.{AcceptsBy, IsWaiting, Wakes, after_mark, asked_next, request_at, turn_of}
 use Rattle.cpu.specs.UnderWay.{Means}
 
 pub known : (i : Inside) → IsSound i → i.started ≡ true → Means i.acting i.state i.under i.heard i.log.seen.0 i.log.part i.log.first
@@ -53,8 +54,11 @@ asks-waiting : (v : Vp) → IsWaiting v → asking_so v ≡ asking None v
 asks-waiting v w = rw (w.op, w.again) refl
 
 -- the turn that hands out the request
-pub woken-asks : (v n : Vp) (seat : Seat) (q : Request) → IsWaiting v → length v.seen ≡ 1 → n ≡ asking_so v → q ≡ asked_of (origin_of v) Fetch → Wakes v seat n seat (turns.Wants q)
-woken-asks v n seat q w one en eq = rw (looked-rest v w one) (refl, rw (← asks-waiting v w) en, ap turns.Wants eq)
+pub woken-asks : (v n : Vp) (seat : Seat) → v.started ≡ false → IsWaiting v → length v.seen ≡ 1 → n ≡ asking_so v → Wakes v seat n seat (turn_of paces.Wants (asked_next n))
+woken-asks v n seat off w one en =
+    let left : asked_next (asking_so v) ≡ request_at (start_rest v) = rw off refl in
+    let asked : asked_next n ≡ Some (asked_of (origin_of v) Fetch) = ap asked_next en ∙ left ∙ ap request_at (looked-rest v w one) in
+    rw (looked-rest v w one) (refl, rw (← asks-waiting v w) en, ap (turn_of paces.Wants) asked)
 
 -- the processor with the mark of its start, in this state, with this ending
 abbrev pub begun_with : Vp → State → Option Ending → Reply → Vp

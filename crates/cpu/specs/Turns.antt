@@ -1,5 +1,5 @@
 -- What one turn of a processor is.
-use Rattle.std.specs.Prelude.{◌≡◌, ◌≤◌, ℕ, ◌==◌, Bool, true, false, Option, Some, None, IfSome, List, [], drop, length, reverse}
+use Rattle.std.specs.Prelude.{◌≡◌, ◌≤◌, ℕ, ◌==◌, Bool, true, false, if◌then◌else◌, Option, Some, None, IfSome, List, [], drop, length, reverse}
 use Rattle.vsm_core.specs.declared.event.Event.{Event}
 use Rattle.vsm_core.specs.declared.event.Phase.{Phase}
 use Rattle.vsm_core.specs.declared.event.Phase.TheVariants as phases
@@ -10,7 +10,8 @@ use Rattle.vsm_core.specs.declared.operation.Op.{Op}
 use Rattle.vsm_core.specs.declared.operation.Program.{Program}
 use Rattle.vsm_core.specs.Outcomes.{Outcome}
 use Rattle.vsm_core.specs.declared.request.Reply.{Reply}
-use Rattle.vsm_core.specs.Processor.{Vp, operation_at, saw, settled, asking, answered, start_rest}
+use Rattle.vsm_core.specs.declared.request.Request.{Request}
+use Rattle.vsm_core.specs.Processor.{Vp, operation_at, saw, settled, asking, answered, rest_of, start_rest}
 use Rattle.vsm_core.specs.Protection.{IsSlice}
 use Rattle.vsm_core.specs.Seat.{Seat, Makes}
 use Rattle.vsm_core.specs.Steps.{made, phase_of}
@@ -18,6 +19,8 @@ use Rattle.vsm_core.specs.Tree.{Tree, Ends, Asks, Wants}
 use Rattle.cpu.specs.declared.cpu_turn.CpuTurn.{CpuTurn}
 use Rattle.cpu.specs.declared.cpu_turn.CpuTurn.TheVariants.{Moved, Idle, Attempt, Again, Ended}
 use Rattle.cpu.specs.declared.cpu_turn.CpuTurn.TheVariants as turns
+use Rattle.cpu.specs.declared.cpu_turn.Pace.{Pace}
+use Rattle.cpu.specs.declared.cpu_turn.Pace.TheVariants as paces
 
 -- where a processor is in its access whose attempt's events are those seen from `first` on
 abbrev pub phase_at : List Event → ℕ → Phase
@@ -40,6 +43,37 @@ abbrev pub answer_at : Tree Outcome → Option Ending → CpuTurn
 answer_at (Ends o) ended = after_mark o.what ended
 answer_at (Asks s k) ended = Moved
 answer_at (Wants q k) ended = Moved
+
+-- what a turn came to, without its request, and whether it asks one
+abbrev pub pace_of : CpuTurn → Pace
+pace_of Moved = paces.Moved
+pace_of Idle = paces.Idle
+pace_of Attempt = paces.Attempt
+pace_of Again = paces.Again
+pace_of (turns.Wants q) = paces.Wants
+pace_of (Ended ending) = paces.Ended ending
+
+abbrev pub asks_by : Pace → Bool
+asks_by paces.Wants = true
+asks_by _ = false
+
+-- the request that comes next of an attempt, and the one that a processor waits for the reply to
+abbrev pub request_at : Tree Outcome → Option Request
+request_at (Wants q k) = Some q
+request_at _ = None
+
+abbrev pub asked_next : Vp → Option Request
+asked_next v = request_at (if v.started then rest_of v v.op else start_rest v)
+
+-- the turn that came to this and asks this
+abbrev pub turn_of : Pace → Option Request → CpuTurn
+turn_of paces.Moved asked = Moved
+turn_of paces.Idle asked = Idle
+turn_of paces.Attempt asked = Attempt
+turn_of paces.Again asked = Again
+turn_of paces.Wants (Some q) = turns.Wants q
+turn_of paces.Wants None = Moved
+turn_of (paces.Ended ending) asked = Ended ending
 
 -- a turn where this is left of the attempt of this operation: its end with no step, its next step and no other, or its
 -- request, which is handed out with no step

@@ -1,6 +1,6 @@
 // What a turn came to.
-ghost use Rattle.std.specs.Prelude.{◌≡◌};
-ghost use Rattle.cpu.specs.Turns.{after_mark};
+ghost use Rattle.std.specs.Prelude.{◌≡◌, false, None};
+ghost use Rattle.cpu.specs.Turns.{after_mark, asks_by, pace_of, turn_of};
 
 use vsm_core::{Ending, Request, What};
 
@@ -21,13 +21,41 @@ pub enum CpuTurn {
     Ended(Ending),
 }
 
-/// What a turn answers by which an attempt came to this.
-pub fn after_mark(what: &What, ended: Option<Ending>) -> CpuTurn
-    ensures { result ≡ after_mark what.now ended }
+/// What a step came to: the same, but that a request isn't told.
+#[derive(Clone, Copy, Debug)]
+pub enum Pace {
+    Moved,
+    Idle,
+    Attempt,
+    Again,
+    Wants,
+    Ended(Ending),
+}
+
+impl Pace {
+    /// The turn that came to this and asks nothing.
+    pub fn turn(self) -> CpuTurn
+        requires { asks_by self ≡ false }
+        ensures { result ≡ turn_of self None }
+    {
+        match self {
+            Pace::Moved => CpuTurn::Moved,
+            Pace::Idle => CpuTurn::Idle,
+            Pace::Attempt => CpuTurn::Attempt,
+            Pace::Again => CpuTurn::Again,
+            Pace::Wants => unreachable!(),
+            Pace::Ended(ending) => CpuTurn::Ended(ending),
+        }
+    }
+}
+
+/// What a step came to by which an attempt came to this.
+pub fn after_mark(what: &What, ended: Option<Ending>) -> Pace
+    ensures { result ≡ pace_of (after_mark what.now ended) }
 {
     match ended {
-        Some(ending) => CpuTurn::Ended(ending),
-        None if matches!(what, What::Again(_)) => CpuTurn::Again,
-        None => CpuTurn::Attempt,
+        Some(ending) => Pace::Ended(ending),
+        None if matches!(what, What::Again(_)) => Pace::Again,
+        None => Pace::Attempt,
     }
 }

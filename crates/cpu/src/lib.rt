@@ -10,7 +10,7 @@ mod log;
 mod marks;
 mod processor;
 
-pub use cpu_turn::CpuTurn;
+pub use cpu_turn::{CpuTurn, Pace};
 pub use processor::Cpu;
 
 #[cfg(test)]

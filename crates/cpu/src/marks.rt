@@ -6,11 +6,11 @@ ghost use Rattle.attempt.specs.Results.{result_of};
 ghost use Rattle.attempt.specs.Views.{origin_of};
 ghost use Rattle.cpu.specs.Marks.{course_on, log_marked};
 ghost use Rattle.cpu.specs.Logs.{again_in, mark_in};
-ghost use Rattle.cpu.specs.Turns.{after_mark};
+ghost use Rattle.cpu.specs.Turns.{after_mark, pace_of};
 ghost use Rattle.vsm_core.specs.Attempt.{attempt};
 ghost use Rattle.vsm_core.specs.State.{rip_of};
 
-use crate::cpu_turn::{CpuTurn, after_mark};
+use crate::cpu_turn::{Pace, after_mark};
 use crate::endings::Course;
 use crate::lengths::{Lengths, rip_of};
 use crate::log::Log;
@@ -18,7 +18,7 @@ use attempt::{Under, VpState};
 use vsm_core::{Grant, What};
 
 /// Leaves the mark that stays, where an attempt has come to its end, and does to the state what the attempt does.
-pub fn leave_mark(state: &mut VpState, log: &mut Log, under: &Under, lengths: &Lengths) -> CpuTurn
+pub fn leave_mark(state: &mut VpState, log: &mut Log, under: &Under, lengths: &Lengths) -> Pace
     requires room { 0 < state.old.room }
     requires is { DecidedIs (origin_of state.old) under.now under.now.decided }
     requires part { log.old.part ≤ length log.old.seen.0 }
@@ -26,7 +26,7 @@ pub fn leave_mark(state: &mut VpState, log: &mut Log, under: &Under, lengths: &L
     requires marks { length log.old.marks.0 < log.old.marks.1 }
     ensures state { Comes state.old state.new (result_of (origin_of state.old) under.now).what (result_of (origin_of state.old) under.now) }
     ensures log { log.new ≡ log_marked lengths.now state.old state.new (result_of (origin_of state.old) under.now).what log.old }
-    ensures turn { result ≡ after_mark (result_of (origin_of state.old) under.now).what log.new.ended }
+    ensures turn { result ≡ pace_of (after_mark (result_of (origin_of state.old) under.now).what log.new.ended) }
 {
     let level = state.levels.active();
     let rip = rip_of(state);
@@ -39,9 +39,9 @@ pub fn leave_mark(state: &mut VpState, log: &mut Log, under: &Under, lengths: &L
         spins: log.spins,
     };
     let ended = course.after(&what);
-    let turn = after_mark(&what, ended);
+    let pace = after_mark(&what, ended);
     log.mark(level, rip, what, ended);
-    turn
+    pace
 }
 
 /// Where a processor is after a spin that found another value, which leaves no mark that counts.
@@ -59,12 +59,12 @@ pub fn course_on(state: &VpState, log: &Log, lengths: &Lengths) -> Course
 }
 
 /// Leaves the mark of a start, in the state that the start has led to.
-pub fn leave_start(state: &VpState, log: &mut Log, lengths: &Lengths) -> CpuTurn
+pub fn leave_start(state: &VpState, log: &mut Log, lengths: &Lengths) -> Pace
     requires part { log.old.part ≤ length log.old.seen.0 }
     requires few { length log.old.seen.0 < 2 ^ 32 }
     requires marks { length log.old.marks.0 < log.old.marks.1 }
     ensures log { log.new ≡ log_marked lengths.now state.now state.now What.Started log.old }
-    ensures turn { result ≡ after_mark What.Started log.new.ended }
+    ensures turn { result ≡ pace_of (after_mark What.Started log.new.ended) }
 {
     let level = state.levels.active();
     let rip = rip_of(state);
@@ -77,9 +77,9 @@ pub fn leave_start(state: &VpState, log: &mut Log, lengths: &Lengths) -> CpuTurn
         spins: log.spins,
     };
     let ended = course.after(&what);
-    let turn = after_mark(&what, ended);
+    let pace = after_mark(&what, ended);
     log.mark(level, rip, what, ended);
-    turn
+    pace
 }
 
 /// Leaves the mark of a spin that found another value, and begins the attempt anew.

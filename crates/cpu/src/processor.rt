@@ -2,24 +2,25 @@
 ghost use Rattle.std.specs.Prelude.{◌≡◌, [], ◌+◌, ◌-◌, ◌<◌, ◌≤◌, ◌≢◌, true, false, None, Some, IfSome, IfOk, length, drop};
 ghost use Rattle.std.specs.List.{All};
 ghost use Rattle.vsm_core.specs.Processor.{opening, standing, operation_at, rest_of, start_rest, settled, new_marks, answered, IsShort, IsSameProcessor};
+ghost use Rattle.vsm_core.specs.Protection.{IsSlice};
 ghost use Rattle.vsm_core.specs.Tree.{by_reply};
 ghost use Rattle.cpu.specs.Ends.{SpinsInVain};
-ghost use Rattle.cpu.specs.Turns.{HandsSlice, IsWaiting, Keeps, VpServes, TurnsBy, AcceptsBy, OwesBy, Wakes, answer_at, phase_at};
+ghost use Rattle.cpu.specs.Turns.{HandsSlice, IsWaiting, Keeps, VpServes, TurnsBy, AcceptsBy, OwesBy, Wakes, answer_at, asked_next, asks_by, pace_of, phase_at, turn_of};
 
 use crate::ask::ask;
 use crate::begun::begun;
-use crate::cpu_turn::CpuTurn;
+use crate::cpu_turn::{CpuTurn, Pace};
 use crate::endings::Course;
 use crate::lengths::{Lengths, rip_of};
 use crate::log::Log;
 use crate::marks::{course_on, leave_again, leave_mark, leave_start};
-use attempt::{Asked, Next, Under, VpState};
+use attempt::{Next, Under, VpState};
 use fabric::Port;
 use register_file::Bank;
 use std::alloc::Global;
 use std::marker::Model;
 use vsm_base::{Items, Limits, Memory, Reserved, VpIndex};
-use vsm_core::{Ending, Event, Grant, Heard, Mark, PendingWord, Program, Reply};
+use vsm_core::{Ending, Event, Grant, Heard, Mark, PendingWord, Program, Reply, Request};
 use vtl_state::Levels;
 
 /// A virtual processor: its registers, what its interrupt controllers hold, the operation that it is at, its marks and its
@@ -107,50 +108,50 @@ impl Cpu {
 
     /// Leaves the mark of a spin that found another value and begins anew, or ends.
     #[tactic(auto, unfolding(vsm_core::specs::Processor::spin_limit))]
-    fn mark_again(&mut self, grant: Grant) -> CpuTurn
+    fn mark_again(&mut self, grant: Grant) -> Pace
         requires started { self.old.started ≡ true }
         requires going { self.old.ended ≡ None }
         requires answered { self.old.owes ≡ false }
         requires fresh { self.old.again ≡ false }
         requires spins { SpinsInVain self.old grant }
         ensures new { self.new ≡ settled (rest_of self.old self.old.op) self.old }
-        ensures turn { result ≡ answer_at (rest_of self.old self.old.op) self.new.ended }
+        ensures turn { result ≡ pace_of (answer_at (rest_of self.old self.old.op) self.new.ended) }
         ensures short { All IsShort (drop (length self.old.marks) self.new.marks) }
         ensures phase { phase_at self.new.seen self.new.first ≡ phase_at self.old.seen self.old.first }
         ensures same { IsSameProcessor self.old self.new }
         ensures kept { Keeps self.old self.new }
-        ensures owes { OwesBy result self.new.owes }
+        ensures owes { self.new.owes ≡ false }
         ensures within { length self.new.marks ≤ self.old.limits.budget }
     {
         let ended = course_on(&self.state, &self.log, &self.lengths).going_on();
         let Some(ending) = ended else {
             leave_again(&self.state, &mut self.under, &mut self.log, grant);
-            return CpuTurn::Again;
+            return Pace::Again;
         };
         self.acting = false;
         self.log.end_spin(ending);
-        CpuTurn::Ended(ending)
+        Pace::Ended(ending)
     }
 
     /// Leaves the mark, if the attempt has come to its end.
-    fn settle(&mut self) -> CpuTurn
+    fn settle(&mut self) -> Pace
         requires started { self.old.started ≡ true }
         requires going { self.old.ended ≡ None }
         requires answered { self.old.owes ≡ false }
         requires fresh { self.old.again ≡ false }
         requires under { self.old.op ≢ None }
         ensures new { self.new ≡ settled (rest_of self.old self.old.op) self.old }
-        ensures turn { result ≡ answer_at (rest_of self.old self.old.op) self.new.ended }
+        ensures turn { result ≡ pace_of (answer_at (rest_of self.old self.old.op) self.new.ended) }
         ensures short { All IsShort (drop (length self.old.marks) self.new.marks) }
         ensures phase { phase_at self.new.seen self.new.first ≡ phase_at self.old.seen self.old.first }
         ensures same { IsSameProcessor self.old self.new }
         ensures kept { Keeps self.old self.new }
-        ensures owes { OwesBy result self.new.owes }
+        ensures owes { self.new.owes ≡ false }
         ensures within { length self.new.marks ≤ self.old.limits.budget }
     {
         match self.state.next(&self.under) {
-            Next::Ask(_) => CpuTurn::Moved,
-            Next::Want(_) => CpuTurn::Moved,
+            Next::Ask(_) => Pace::Moved,
+            Next::Want(_) => Pace::Moved,
             Next::End => match self.under.again() {
                 Some(grant) => self.mark_again(grant),
                 None => {
@@ -169,7 +170,7 @@ impl Cpu {
     }
 
     /// Makes the next step of a processor that has started, or the end of an attempt that has no step left.
-    fn advance<P: Port>(&mut self, port: &mut P, program: &Program) -> CpuTurn
+    fn advance<P: Port>(&mut self, port: &mut P, program: &Program) -> Pace
         requires started { self.old.started ≡ true }
         requires going { self.old.ended ≡ None }
         requires answered { self.old.owes ≡ false }
@@ -177,23 +178,22 @@ impl Cpu {
         requires one { length program.now.one ≡ self.old.one_length }
         requires same { IfSome self.old.op (λ op. operation_at program.now self.old.state ≡ Some op) }
         requires serves { VpServes self.old (P.seat port.old) }
-        ensures turned { TurnsBy (rest_of self.old (operation_at program.now self.old.state)) (operation_at program.now self.old.state) self.old (P.seat port.old) self.new (P.seat port.new) result }
+        ensures turned { TurnsBy (rest_of self.old (operation_at program.now self.old.state)) (operation_at program.now self.old.state) self.old (P.seat port.old) self.new (P.seat port.new) (turn_of result (asked_next self.new)) }
         ensures serves { VpServes self.new (P.seat port.new) }
         ensures name { (P.seat port.new).name ≡ (P.seat port.old).name }
         ensures short { All IsShort (new_marks self.old self.new) }
         ensures same { IsSameProcessor self.old self.new }
         ensures kept { IfSome self.new.op (λ op. operation_at program.now self.new.state ≡ Some op) }
-        ensures owes { OwesBy result self.new.owes }
-        ensures slices { HandsSlice result }
+        ensures owes { self.new.owes ≡ asks_by result }
         ensures within { length self.new.marks ≤ self.old.limits.budget }
     {
         begun(&self.state, &mut self.under, self.acting, program);
         self.acting = true;
         self.log.stand();
         match self.state.next(&self.under) {
-            Next::Want(asked) => {
+            Next::Want(_) => {
                 self.owes = true;
-                CpuTurn::Wants(self.state.request(&self.under, asked))
+                Pace::Wants
             }
             Next::End => self.settle(),
             Next::Ask(step) => {
@@ -207,33 +207,75 @@ impl Cpu {
 
     /// Takes from the start word of a processor that hasn't started, or asks for its contexts where it has taken a start.
     /// Where the word was 0 nothing changes.
-    fn wake<P: Port>(&mut self, port: &mut P) -> CpuTurn
+    fn wake<P: Port>(&mut self, port: &mut P) -> Pace
         requires waits { self.old.started ≡ false }
         requires answered { self.old.owes ≡ false }
         requires serves { VpServes self.old (P.seat port.old) }
-        ensures woken { Wakes self.old (P.seat port.old) self.new (P.seat port.new) result }
+        ensures woken { Wakes self.old (P.seat port.old) self.new (P.seat port.new) (turn_of result (asked_next self.new)) }
         ensures serves { VpServes self.new (P.seat port.new) }
         ensures name { (P.seat port.new).name ≡ (P.seat port.old).name }
         ensures short { All IsShort (new_marks self.old self.new) }
         ensures same { IsSameProcessor self.old self.new }
         ensures idle { self.new.op ≡ None }
-        ensures owes { OwesBy result self.new.owes }
-        ensures slices { HandsSlice result }
+        ensures owes { self.new.owes ≡ asks_by result }
         ensures within { length self.new.marks ≤ self.old.limits.budget }
     {
         if self.log.first < self.log.seen.as_slice().len() {
             self.owes = true;
-            return CpuTurn::Wants(self.state.fetch());
+            return Pace::Wants;
         }
         let bits = port.take(PendingWord::Start);
         if bits == 0 {
-            return CpuTurn::Idle;
+            return Pace::Idle;
         }
         self.log.see(Event::Take {
             word: PendingWord::Start,
             bits,
         });
-        CpuTurn::Moved
+        Pace::Moved
+    }
+
+    /// Makes a turn (see `turn`) and answers what it came to. A request isn't told: `wanted` answers it. Where many turns
+    /// are made one after the other this is what they should call.
+    pub fn step<P: Port>(&mut self, port: &mut P, program: &Program) -> Pace
+        requires going { self.old.ended ≡ None }
+        requires answered { self.old.owes ≡ false }
+        requires zero { length program.now.zero ≡ self.old.zero_length }
+        requires one { length program.now.one ≡ self.old.one_length }
+        requires same { IfSome self.old.op (λ op. operation_at program.now self.old.state ≡ Some op) }
+        requires serves { VpServes self.old (P.seat port.old) }
+        ensures turned { self.old.started ≡ true → TurnsBy (rest_of self.old (operation_at program.now self.old.state)) (operation_at program.now self.old.state) self.old (P.seat port.old) self.new (P.seat port.new) (turn_of result (asked_next self.new)) }
+        ensures woken { self.old.started ≡ false → Wakes self.old (P.seat port.old) self.new (P.seat port.new) (turn_of result (asked_next self.new)) }
+        ensures serves { VpServes self.new (P.seat port.new) }
+        ensures name { (P.seat port.new).name ≡ (P.seat port.old).name }
+        ensures short { All IsShort (new_marks self.old self.new) }
+        ensures same { IsSameProcessor self.old self.new }
+        ensures kept { IfSome self.new.op (λ op. operation_at program.now self.new.state ≡ Some op) }
+        ensures owes { self.new.owes ≡ asks_by result }
+        ensures within { length self.new.marks ≤ self.old.limits.budget }
+    {
+        if self.started {
+            self.advance(port, program)
+        } else {
+            self.wake(port)
+        }
+    }
+
+    /// The request that a processor waits for the reply to.
+    ///
+    /// It needs a processor that waits for a reply.
+    pub fn wanted(&self) -> Request
+        requires { self.now.owes ≡ true }
+        ensures request { asked_next self.now ≡ Some result }
+        ensures slice { IsSlice result.call }
+    {
+        if !self.started {
+            return self.state.fetch();
+        }
+        let Next::Want(asked) = self.state.next(&self.under) else {
+            unreachable!()
+        };
+        self.state.request(&self.under, asked)
     }
 
     /// Makes at most one step at the processor's port. It takes no memory.
@@ -291,25 +333,26 @@ impl Cpu {
         ensures slices { HandsSlice result }
         ensures within { length self.new.marks ≤ self.old.limits.budget }
     {
-        if self.started {
-            self.advance(port, program)
-        } else {
-            self.wake(port)
+        let pace = self.step(port, program);
+        if let Pace::Wants = pace {
+            return CpuTurn::Wants(self.wanted());
         }
+        pace.turn()
     }
 
     /// Goes on with an attempt by the reply to its request.
-    fn resume(&mut self, reply: Reply) -> CpuTurn
+    fn resume(&mut self, reply: Reply) -> Pace
         requires started { self.old.started ≡ true }
         requires owes { self.old.owes ≡ true }
         requires done { reply.done < 4096 }
-        ensures accepted { AcceptsBy (rest_of self.old self.old.op) reply self.old self.new result }
+        ensures accepted { AcceptsBy (rest_of self.old self.old.op) reply self.old self.new (turn_of result None) }
         ensures left { rest_of (answered reply self.old) self.old.op ≡ by_reply (rest_of self.old self.old.op) reply }
         ensures unheard { self.old.heard ≡ None }
         ensures phase { phase_at self.new.seen self.new.first ≡ phase_at self.old.seen self.old.first }
         ensures short { All IsShort (new_marks self.old self.new) }
         ensures same { IsSameProcessor self.old self.new }
         ensures owes { self.new.owes ≡ false }
+        ensures quiet { asks_by result ≡ false }
         ensures kept { Keeps self.old self.new }
         ensures within { length self.new.marks ≤ self.old.limits.budget }
     {
@@ -324,15 +367,16 @@ impl Cpu {
     }
 
     /// Starts with the contexts of the reply, and leaves the mark of the start.
-    fn start(&mut self, reply: &Reply) -> CpuTurn
+    fn start(&mut self, reply: &Reply) -> Pace
         requires waits { self.old.started ≡ false }
         requires owes { self.old.owes ≡ true }
-        ensures begun { AcceptsBy (start_rest self.old) reply.now self.old self.new result }
+        ensures begun { AcceptsBy (start_rest self.old) reply.now self.old self.new (turn_of result None) }
         ensures unheard { self.old.heard ≡ None }
         ensures phase { phase_at self.new.seen self.new.first ≡ phase_at self.old.seen self.old.first }
         ensures short { All IsShort (new_marks self.old self.new) }
         ensures same { IsSameProcessor self.old self.new }
         ensures owes { self.new.owes ≡ false }
+        ensures quiet { asks_by result ≡ false }
         ensures kept { Keeps self.old self.new }
         ensures within { length self.new.marks ≤ self.old.limits.budget }
     {
@@ -369,9 +413,9 @@ impl Cpu {
         ensures within { length self.new.marks ≤ self.old.limits.budget }
     {
         if self.started {
-            self.resume(reply)
+            self.resume(reply).turn()
         } else {
-            self.start(&reply)
+            self.start(&reply).turn()
         }
     }
 

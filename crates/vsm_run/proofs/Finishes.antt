@@ -34,7 +34,9 @@ use Rattle.vsm_core.proofs.Soundness.{attempt-sound}
 use Rattle.vsm_core.proofs.Requests.{Unasked, NoAgain, own-requests}
 use Rattle.cpu.specs.declared.cpu_turn.CpuTurn.{CpuTurn}
 use Rattle.cpu.specs.declared.cpu_turn.CpuTurn.TheVariants as turns
-use Rattle.cpu.specs.Turns.{AcceptsBy, after_mark, answer_at, phase_at}
+use Rattle.cpu.specs.declared.cpu_turn.Pace.{Pace}
+use Rattle.cpu.specs.declared.cpu_turn.Pace.TheVariants as paces
+use Rattle.cpu.specs.Turns.{AcceptsBy, after_mark, answer_at, phase_at, turn_of}
 use Rattle.partition.specs.PartView.{PartView}
 use Rattle.vsm_report.specs.Trace.{made_steps}
 use Rattle.vsm_report.proofs.Processors.{same_by}
@@ -176,11 +178,18 @@ marks-on what None e = cc
 pub still-paced : (limits : Limits) (p : PartView) (f g : Fabric) → SameParts f g → IsPacedBy p (record { limits = limits; fabric = f }) → IsPacedBy p (record { limits = limits; fabric = g })
 still-paced limits p f g parts paced = record { vps = paced.vps; pages = paced.pages; turns = parts.turns ∙ paced.turns; cleared = parts.cleared ∙ paced.cleared }
 
--- a turn with which an attempt doesn't go on and by which it asks nothing
-pub ends-turn : (turn : CpuTurn) (limits : Limits) (p : ℕ) (op : Option Op) (v n : Vp) (words now : List ℕ) → turn ≢ turns.Moved → ((q : Request) → turn ≢ turns.Wants q) → Leads turn limits p op v n words now → Stops limits p op v n words now
-ends-turn turns.Moved limits p op v n words now on asks leads = absurd (on refl)
-ends-turn (turns.Wants q) limits p op v n words now on asks leads = absurd (asks q refl)
-ends-turn _ limits p op v n words now on asks leads = leads
+-- a step by which it asks this
+pub asks-turn : (pace : Pace) (asked : Option Request) (q : Request) → pace ≡ paces.Wants → asked ≡ Some q → turn_of pace asked ≡ turns.Wants q
+asks-turn pace asked q e is = rw (e, is) refl
+
+-- a step with which it doesn't go on and by which it asks nothing
+pub ends-pace : (pace : Pace) (asked : Option Request) (limits : Limits) (p : ℕ) (op : Option Op) (v n : Vp) (words now : List ℕ) → pace ≢ paces.Moved → pace ≢ paces.Wants → Leads (turn_of pace asked) limits p op v n words now → Stops limits p op v n words now
+ends-pace paces.Moved asked limits p op v n words now on asks leads = absurd (on refl)
+ends-pace paces.Wants asked limits p op v n words now on asks leads = absurd (asks refl)
+ends-pace paces.Idle asked limits p op v n words now on asks leads = leads
+ends-pace paces.Attempt asked limits p op v n words now on asks leads = leads
+ends-pace paces.Again asked limits p op v n words now on asks leads = leads
+ends-pace (paces.Ended ending) asked limits p op v n words now on asks leads = leads
 
 -- the attempt of this operation has come so far
 module _ (op : Option Op) (start : Vp) (words : List ℕ) (before : PartView) (limits : Limits) (v : Vp) (fabric : Fabric) (now : PartView) (on : IsOn op start words before limits v fabric now) where

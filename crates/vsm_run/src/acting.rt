@@ -5,7 +5,7 @@ ghost use Rattle.vsm_core.specs.Hypercalls.{asked_of};
 ghost use Rattle.vsm_core.specs.Processor.{asking, operation_at, origin_of, standing, start_rest};
 ghost use Rattle.vsm_core.specs.Protection.{IsSlice, owed};
 ghost use Rattle.vsm_core.specs.Served.{answer, block};
-ghost use Rattle.cpu.specs.Turns.{HandsSlice, OwesBy, phase_at};
+ghost use Rattle.cpu.specs.Turns.{asked_next, asks_by, phase_at, turn_of};
 ghost use Rattle.vsm_report.specs.Acting.{attempt_lines, entry_line, mark_line};
 ghost use Rattle.vsm_report.specs.Trace.{made_steps};
 ghost use Rattle.vsm_run.specs.Fits.{FitsOne};
@@ -14,7 +14,7 @@ ghost use Rattle.vsm_run.specs.Serving.{AddsFew, Agrees, HasRoomForOne, IsDone, 
 ghost use Rattle.vsm_run.specs.Starting.{StartsBy, fetches};
 ghost use Rattle.vsm_run.specs.Wholes.{HasHeard, Leads};
 
-use cpu::{Cpu, CpuTurn};
+use cpu::{Cpu, CpuTurn, Pace};
 use fabric::PlainFabric;
 use partition::{PartTurn, Partition};
 use vsm_base::{Reserved, VpIndex};
@@ -22,7 +22,7 @@ use vsm_core::{Entry, Mark, PartCall, Phase, Program, Reply, Request};
 use vsm_report::{Line, add_entry, add_mark};
 
 // Lets a processor make one turn.
-fn turn_at(fabric: &mut PlainFabric, cpu: &mut Cpu, program: &Program) -> CpuTurn
+fn turn_at(fabric: &mut PlainFabric, cpu: &mut Cpu, program: &Program) -> Pace
     requires going { cpu.old.ended ≡ None }
     requires started { cpu.old.started ≡ true }
     requires answered { cpu.old.owes ≡ false }
@@ -30,23 +30,22 @@ fn turn_at(fabric: &mut PlainFabric, cpu: &mut Cpu, program: &Program) -> CpuTur
     requires limits { cpu.old.limits ≡ fabric.old.limits }
     requires phase { get_or fabric.old.fabric.phases cpu.old.number Phase.Idle ≡ phase_at cpu.old.seen cpu.old.first }
     requires heard { HasHeard cpu.old }
-    ensures leads { Leads result fabric.old.limits cpu.old.number (operation_at program.now cpu.old.state) cpu.old cpu.new fabric.old.fabric.words fabric.new.fabric.words }
-    ensures owes { OwesBy result cpu.new.owes }
+    ensures leads { Leads (turn_of result (asked_next cpu.new)) fabric.old.limits cpu.old.number (operation_at program.now cpu.old.state) cpu.old cpu.new fabric.old.fabric.words fabric.new.fabric.words }
+    ensures owes { cpu.new.owes ≡ asks_by result }
     ensures limits { fabric.new.limits ≡ fabric.old.limits }
     ensures phase { get_or fabric.new.fabric.phases cpu.old.number Phase.Idle ≡ phase_at cpu.new.seen cpu.new.first }
     ensures others { (q : ℕ) → q ≢ cpu.old.number → get_or fabric.new.fabric.phases q Phase.Idle ≡ get_or fabric.old.fabric.phases q Phase.Idle }
     ensures first { cpu.new.first ≤ length cpu.new.seen }
     ensures few { length cpu.new.seen ≤ cpu.new.first + 38 }
-    ensures slices { HandsSlice result }
     ensures agrees { Agrees fabric.old.limits fabric.old.fabric → Agrees fabric.old.limits fabric.new.fabric }
     ensures turns { fabric.new.fabric.turns ≡ fabric.old.fabric.turns }
     ensures cleared { fabric.new.fabric.cleared ≡ fabric.old.fabric.cleared }
 {
     let vp = cpu.vp();
     let mut port = fabric.port(vp);
-    let turn = cpu.turn(&mut port, program);
+    let pace = cpu.step(&mut port, program);
     let _vp = cpu.vp();
-    turn
+    pace
 }
 
 // Lets the partition serve a request at once: it adds its entries one by one, each with its step on the words. No
@@ -100,8 +99,9 @@ fn attempt_at(fabric: &mut PlainFabric, partition: &mut Partition, cpu: &mut Cpu
 {
     'turns: loop {
         match turn_at(fabric, cpu, program) {
-            CpuTurn::Moved => {}
-            CpuTurn::Wants(request) => {
+            Pace::Moved => {}
+            Pace::Wants => {
+                let request = cpu.wanted();
                 let reply = serve(partition, fabric, request);
                 match cpu.accept(reply) {
                     CpuTurn::Moved => {}

@@ -4,10 +4,10 @@ use Rattle.vsm_core.specs.Processor.{Vp, Did, operation_at}
 use Rattle.vsm_core.specs.Protection.{IsSlice}
 use Rattle.vsm_core.specs.Served.{block}
 use Rattle.vsm_core.specs.State.{State}
-use Rattle.cpu.specs.Turns.{HandsSlice}
+use Rattle.cpu.specs.Turns.{asked_next, turn_of}
 use Rattle.vsm_run.specs.Serving.{AddsFew, Agrees, IsDone, IsFree, IsPacedBy, NoneBusy}
 use Rattle.vsm_run.specs.Wholes.{Hands, Moves, Leads, does_rest}
-use Rattle.vsm_run.proofs.Finishes.{IsFinished, Phases, on-at-first, made-rest, led, still-on, still-paced, ends-turn, stops-finished, now-free, none-busy, asks-by, asks-room, heard-on, heard-finished}
+use Rattle.vsm_run.proofs.Finishes.{IsFinished, Phases, on-at-first, made-rest, led, still-on, still-paced, stops-finished, now-free, none-busy, asks-by, asks-room, asks-turn, ends-pace, heard-on, heard-finished}
 use Rattle.vsm_run.proofs.Wholes.{SameParts}
 use Rattle.vsm_run.proofs.acting.attempt_at.Goals as goal
 
@@ -34,8 +34,8 @@ turns-preserved-in-Moved c =
     let same = ap (λ (s : State). operation_at program s) on.state in
     let agrees : Agrees limits turned = subst (λ l. Agrees l fabric → Agrees l turned) c.turns.invariant.limits c.turn_at.ensures.agrees on.agrees in
     let parts : SameParts fabric turned = record { turns = c.turn_at.ensures.turns; cleared = c.turn_at.ensures.cleared } in
-    let leads = led op start words before limits v fabric now on (operation_at program v.state) c.turns.fabric.limits n turned.words c.turn_at.result c.turns.invariant.limits same c.turn_at.ensures.leads in
-    let moves : Moves limits start.number op v n fabric.words turned.words = subst (λ turn. Leads turn limits start.number op v n fabric.words turned.words) c.in-Moved.is leads in
+    let leads = led op start words before limits v fabric now on (operation_at program v.state) c.turns.fabric.limits n turned.words (turn_of c.turn_at.result (asked_next n)) c.turns.invariant.limits same c.turn_at.ensures.leads in
+    let moves : Moves limits start.number op v n fabric.words turned.words = subst (λ pace. Leads (turn_of pace (asked_next n)) limits start.number op v n fabric.words turned.words) c.in-Moved.is leads in
     record {
       on = still-on op start words before limits v fabric now on n turned moves c.in-Moved.ensures.owes (record { own = c.turn_at.ensures.phase; others = c.turn_at.ensures.others }) agrees parts;
       limits = c.turn_at.ensures.limits ∙ c.turns.invariant.limits;
@@ -61,10 +61,10 @@ serve-reply-requires-clause-free c =
     let same = ap (λ (s : State). operation_at program s) on.state in
     let agrees : Agrees limits turned = subst (λ l. Agrees l fabric → Agrees l turned) c.turns.invariant.limits c.turn_at.ensures.agrees on.agrees in
     let parts : SameParts fabric turned = record { turns = c.turn_at.ensures.turns; cleared = c.turn_at.ensures.cleared } in
-    let leads = led op start words before limits v fabric now on (operation_at program v.state) c.turns.fabric.limits n turned.words c.turn_at.result c.turns.invariant.limits same c.turn_at.ensures.leads in
+    let leads = led op start words before limits v fabric now on (operation_at program v.state) c.turns.fabric.limits n turned.words (turn_of c.turn_at.result (asked_next n)) c.turns.invariant.limits same c.turn_at.ensures.leads in
     let lims : c.turn_at.new.fabric.limits ≡ limits = c.turn_at.ensures.limits ∙ c.turns.invariant.limits in
-    let q = c.in-Wants.request in
-    let hands : Hands q op v n fabric.words turned.words = subst (λ turn. Leads turn limits start.number op v n fabric.words turned.words) c.in-Wants.is leads in
+    let q = c.wanted-request.result in
+    let hands : Hands q op v n fabric.words turned.words = subst (λ turn. Leads turn limits start.number op v n fabric.words turned.words) (asks-turn c.turn_at.result (asked_next n) q c.in-Wants.is c.wanted-request.ensures.request) leads in
     subst (λ l. IsFree l now) (sym lims) (now-free op start words before limits v fabric now on q n turned.words hands c.requires.free)
 
 pub serve-reply-requires-clause-paced : goal.serve-reply-requires-clause-paced
@@ -84,7 +84,7 @@ serve-reply-requires-clause-paced c =
     let same = ap (λ (s : State). operation_at program s) on.state in
     let agrees : Agrees limits turned = subst (λ l. Agrees l fabric → Agrees l turned) c.turns.invariant.limits c.turn_at.ensures.agrees on.agrees in
     let parts : SameParts fabric turned = record { turns = c.turn_at.ensures.turns; cleared = c.turn_at.ensures.cleared } in
-    let leads = led op start words before limits v fabric now on (operation_at program v.state) c.turns.fabric.limits n turned.words c.turn_at.result c.turns.invariant.limits same c.turn_at.ensures.leads in
+    let leads = led op start words before limits v fabric now on (operation_at program v.state) c.turns.fabric.limits n turned.words (turn_of c.turn_at.result (asked_next n)) c.turns.invariant.limits same c.turn_at.ensures.leads in
     let lims : c.turn_at.new.fabric.limits ≡ limits = c.turn_at.ensures.limits ∙ c.turns.invariant.limits in
     subst (λ l. IsPacedBy now (record { limits = l; fabric = turned })) (sym lims) (still-paced limits now fabric turned parts on.paced)
 
@@ -105,13 +105,13 @@ serve-reply-requires-clause-by c =
     let same = ap (λ (s : State). operation_at program s) on.state in
     let agrees : Agrees limits turned = subst (λ l. Agrees l fabric → Agrees l turned) c.turns.invariant.limits c.turn_at.ensures.agrees on.agrees in
     let parts : SameParts fabric turned = record { turns = c.turn_at.ensures.turns; cleared = c.turn_at.ensures.cleared } in
-    let leads = led op start words before limits v fabric now on (operation_at program v.state) c.turns.fabric.limits n turned.words c.turn_at.result c.turns.invariant.limits same c.turn_at.ensures.leads in
-    let q = c.in-Wants.request in
-    let hands : Hands q op v n fabric.words turned.words = subst (λ turn. Leads turn limits start.number op v n fabric.words turned.words) c.in-Wants.is leads in
+    let leads = led op start words before limits v fabric now on (operation_at program v.state) c.turns.fabric.limits n turned.words (turn_of c.turn_at.result (asked_next n)) c.turns.invariant.limits same c.turn_at.ensures.leads in
+    let q = c.wanted-request.result in
+    let hands : Hands q op v n fabric.words turned.words = subst (λ turn. Leads turn limits start.number op v n fabric.words turned.words) (asks-turn c.turn_at.result (asked_next n) q c.in-Wants.is c.wanted-request.ensures.request) leads in
     asks-by op start words before limits v fabric now on q n turned.words hands c.requires.place.low c.requires.free
 
 pub serve-reply-requires-clause-slice : goal.serve-reply-requires-clause-slice
-serve-reply-requires-clause-slice c = subst HandsSlice c.in-Wants.is c.turn_at.ensures.slices
+serve-reply-requires-clause-slice c = c.wanted-request.ensures.slice
 
 pub serve-reply-requires-clause-room : goal.serve-reply-requires-clause-room
 serve-reply-requires-clause-room c =
@@ -130,10 +130,10 @@ serve-reply-requires-clause-room c =
     let same = ap (λ (s : State). operation_at program s) on.state in
     let agrees : Agrees limits turned = subst (λ l. Agrees l fabric → Agrees l turned) c.turns.invariant.limits c.turn_at.ensures.agrees on.agrees in
     let parts : SameParts fabric turned = record { turns = c.turn_at.ensures.turns; cleared = c.turn_at.ensures.cleared } in
-    let leads = led op start words before limits v fabric now on (operation_at program v.state) c.turns.fabric.limits n turned.words c.turn_at.result c.turns.invariant.limits same c.turn_at.ensures.leads in
-    let q = c.in-Wants.request in
-    let hands : Hands q op v n fabric.words turned.words = subst (λ turn. Leads turn limits start.number op v n fabric.words turned.words) c.in-Wants.is leads in
-    let slice : IsSlice q.call = subst HandsSlice c.in-Wants.is c.turn_at.ensures.slices in
+    let leads = led op start words before limits v fabric now on (operation_at program v.state) c.turns.fabric.limits n turned.words (turn_of c.turn_at.result (asked_next n)) c.turns.invariant.limits same c.turn_at.ensures.leads in
+    let q = c.wanted-request.result in
+    let hands : Hands q op v n fabric.words turned.words = subst (λ turn. Leads turn limits start.number op v n fabric.words turned.words) (asks-turn c.turn_at.result (asked_next n) q c.in-Wants.is c.wanted-request.ensures.request) leads in
+    let slice : IsSlice q.call = c.wanted-request.ensures.slice in
     asks-room op start words before limits v fabric now on q n turned.words hands slice
 
 pub serve-reply-requires-clause-idle : goal.serve-reply-requires-clause-idle
@@ -153,10 +153,10 @@ serve-reply-requires-clause-idle c =
     let same = ap (λ (s : State). operation_at program s) on.state in
     let agrees : Agrees limits turned = subst (λ l. Agrees l fabric → Agrees l turned) c.turns.invariant.limits c.turn_at.ensures.agrees on.agrees in
     let parts : SameParts fabric turned = record { turns = c.turn_at.ensures.turns; cleared = c.turn_at.ensures.cleared } in
-    let leads = led op start words before limits v fabric now on (operation_at program v.state) c.turns.fabric.limits n turned.words c.turn_at.result c.turns.invariant.limits same c.turn_at.ensures.leads in
+    let leads = led op start words before limits v fabric now on (operation_at program v.state) c.turns.fabric.limits n turned.words (turn_of c.turn_at.result (asked_next n)) c.turns.invariant.limits same c.turn_at.ensures.leads in
     let lims : c.turn_at.new.fabric.limits ≡ limits = c.turn_at.ensures.limits ∙ c.turns.invariant.limits in
-    let q = c.in-Wants.request in
-    let hands : Hands q op v n fabric.words turned.words = subst (λ turn. Leads turn limits start.number op v n fabric.words turned.words) c.in-Wants.is leads in
+    let q = c.wanted-request.result in
+    let hands : Hands q op v n fabric.words turned.words = subst (λ turn. Leads turn limits start.number op v n fabric.words turned.words) (asks-turn c.turn_at.result (asked_next n) q c.in-Wants.is c.wanted-request.ensures.request) leads in
     none-busy op start words before limits v fabric now on q n turned.words hands c.turn_at.new.fabric.limits turned lims agrees (record { own = c.turn_at.ensures.phase; others = c.turn_at.ensures.others })
 
 pub turns-preserved : goal.turns-preserved
@@ -176,11 +176,11 @@ turns-preserved c =
     let same = ap (λ (s : State). operation_at program s) on.state in
     let agrees : Agrees limits turned = subst (λ l. Agrees l fabric → Agrees l turned) c.turns.invariant.limits c.turn_at.ensures.agrees on.agrees in
     let parts : SameParts fabric turned = record { turns = c.turn_at.ensures.turns; cleared = c.turn_at.ensures.cleared } in
-    let leads = led op start words before limits v fabric now on (operation_at program v.state) c.turns.fabric.limits n turned.words c.turn_at.result c.turns.invariant.limits same c.turn_at.ensures.leads in
+    let leads = led op start words before limits v fabric now on (operation_at program v.state) c.turns.fabric.limits n turned.words (turn_of c.turn_at.result (asked_next n)) c.turns.invariant.limits same c.turn_at.ensures.leads in
     let lims : c.turn_at.new.fabric.limits ≡ limits = c.turn_at.ensures.limits ∙ c.turns.invariant.limits in
-    let q = c.in-Wants.request in
-    let hands : Hands q op v n fabric.words turned.words = subst (λ turn. Leads turn limits start.number op v n fabric.words turned.words) c.in-Wants.is leads in
-    let slice : IsSlice q.call = subst HandsSlice c.in-Wants.is c.turn_at.ensures.slices in
+    let q = c.wanted-request.result in
+    let hands : Hands q op v n fabric.words turned.words = subst (λ turn. Leads turn limits start.number op v n fabric.words turned.words) (asks-turn c.turn_at.result (asked_next n) q c.in-Wants.is c.wanted-request.ensures.request) leads in
+    let slice : IsSlice q.call = c.wanted-request.ensures.slice in
     let now_started : n.started ≡ true = ap (λ (u : Vp). u.started) hands.asks ∙ on.same.started c.requires.started in
     let m = c.accept.new.self in
     let part = c.serve-reply.new.partition in
@@ -214,11 +214,11 @@ returns-in_default-accept c =
     let same = ap (λ (s : State). operation_at program s) on.state in
     let agrees : Agrees limits turned = subst (λ l. Agrees l fabric → Agrees l turned) c.turns.invariant.limits c.turn_at.ensures.agrees on.agrees in
     let parts : SameParts fabric turned = record { turns = c.turn_at.ensures.turns; cleared = c.turn_at.ensures.cleared } in
-    let leads = led op start words before limits v fabric now on (operation_at program v.state) c.turns.fabric.limits n turned.words c.turn_at.result c.turns.invariant.limits same c.turn_at.ensures.leads in
+    let leads = led op start words before limits v fabric now on (operation_at program v.state) c.turns.fabric.limits n turned.words (turn_of c.turn_at.result (asked_next n)) c.turns.invariant.limits same c.turn_at.ensures.leads in
     let lims : c.turn_at.new.fabric.limits ≡ limits = c.turn_at.ensures.limits ∙ c.turns.invariant.limits in
-    let q = c.in-Wants.request in
-    let hands : Hands q op v n fabric.words turned.words = subst (λ turn. Leads turn limits start.number op v n fabric.words turned.words) c.in-Wants.is leads in
-    let slice : IsSlice q.call = subst HandsSlice c.in-Wants.is c.turn_at.ensures.slices in
+    let q = c.wanted-request.result in
+    let hands : Hands q op v n fabric.words turned.words = subst (λ turn. Leads turn limits start.number op v n fabric.words turned.words) (asks-turn c.turn_at.result (asked_next n) q c.in-Wants.is c.wanted-request.ensures.request) leads in
+    let slice : IsSlice q.call = c.wanted-request.ensures.slice in
     let now_started : n.started ≡ true = ap (λ (u : Vp). u.started) hands.asks ∙ on.same.started c.requires.started in
     let m = c.accept.new.self in
     let part = c.serve-reply.new.partition in
@@ -262,10 +262,10 @@ returns-in_default c =
     let same = ap (λ (s : State). operation_at program s) on.state in
     let agrees : Agrees limits turned = subst (λ l. Agrees l fabric → Agrees l turned) c.turns.invariant.limits c.turn_at.ensures.agrees on.agrees in
     let parts : SameParts fabric turned = record { turns = c.turn_at.ensures.turns; cleared = c.turn_at.ensures.cleared } in
-    let leads = led op start words before limits v fabric now on (operation_at program v.state) c.turns.fabric.limits n turned.words c.turn_at.result c.turns.invariant.limits same c.turn_at.ensures.leads in
+    let leads = led op start words before limits v fabric now on (operation_at program v.state) c.turns.fabric.limits n turned.words (turn_of c.turn_at.result (asked_next n)) c.turns.invariant.limits same c.turn_at.ensures.leads in
     let lims : c.turn_at.new.fabric.limits ≡ limits = c.turn_at.ensures.limits ∙ c.turns.invariant.limits in
     let place = c.requires.place in
-    let stops = ends-turn c.turn_at.result limits start.number op v n fabric.words turned.words c.in_default.not-Moved c.in_default.not-Wants leads in
+    let stops = ends-pace c.turn_at.result (asked_next n) limits start.number op v n fabric.words turned.words c.in_default.not-Moved c.in_default.not-Wants leads in
     let finished : IsFinished limits (does_rest limits start.number op before.state start words) n turned before now =
     stops-finished op start words before limits v fabric now on n turned stops (record { own = c.turn_at.ensures.phase; others = c.turn_at.ensures.others }) agrees parts in
     let made = made-rest program limits start before.state words c.requires.started place.rests place.unheard place.limits_same in

@@ -5,10 +5,10 @@ use Rattle.vsm_core.specs.Seat.{Seat}
 use Rattle.attempt.specs.Asked.{word_step}
 use Rattle.attempt.specs.Views.{origin_of}
 use Rattle.cpu.specs.Sound.{view_of}
-use Rattle.cpu.specs.Turns.{phase_at}
+use Rattle.cpu.specs.Turns.{asked_next, phase_at, turn_of}
 use Rattle.cpu.specs.UnderWay.{IsUnderWay}
 use Rattle.cpu.proofs.Seen.{first-by-le, first-by-few, part-by-le}
-use Rattle.cpu.proofs.Turning.{Steps, StepsOn, answers-on, ends-on, local-by, may-on, stepped, steps-on, turned-by}
+use Rattle.cpu.proofs.Turning.{Steps, StepsOn, answers-on, ends-on, local-by, may-on, stepped, steps-on, quiet-turn, told-turn, turned-by, wanted-turn, wants-on}
 use Rattle.cpu.proofs.Again.{again-kept}
 use Rattle.cpu.proofs.processor.Cpu.advance.Given.{Over}
 use Rattle.cpu.proofs.processor.Cpu.advance.Goals as goal
@@ -88,9 +88,9 @@ returns-in-End-clause-turned g c =
     let way : IsUnderWay i.state u i.heard i.log.seen.0 i.log.part i.log.first = c.begun.ensures.means i.heard i.log.seen.0 i.log.part i.log.first means in
     let own : operation_at c.args.program.now v.state ≡ Some u.op = c.begun.ensures.op in
     let ends = sym way.rest ∙ ends-on (origin_of i.state) u _ c.in-End.ensures.head in
-    rw (← c.self.view_is, own) (local-by v (view_of (record { state = i.state; lengths = i.lengths; started = i.started; under = u; acting = true; owes = i.owes; heard = i.heard; log = c.stand.new.self })) c.settle.new.self u.op _ (g.P.Port.seat c.args.port.now) c.settle.result ends (rw c.stand.ensures refl)
+    rw (← c.self.view_is, own) (local-by v (view_of (record { state = i.state; lengths = i.lengths; started = i.started; under = u; acting = true; owes = i.owes; heard = i.heard; log = c.stand.new.self })) c.settle.new.self u.op _ (g.P.Port.seat c.args.port.now) (turn_of c.settle.result (asked_next c.settle.new.self)) ends (rw c.stand.ensures refl)
     (λ grant. again-kept i u grant means c.begun.ensures.kept (ends-on (origin_of i.state) u _ c.in-End.ensures.head) way)
-    c.settle.ensures.new c.settle.ensures.turn)
+    c.settle.ensures.new (told-turn _ _ _ _ c.settle.ensures.turn))
 
 pub returns-in-Ask-clause-turned : goal.returns-in-Ask-clause-turned
 returns-in-Ask-clause-turned g c =
@@ -98,7 +98,7 @@ returns-in-Ask-clause-turned g c =
     let v = view_of i in
     let u = c.begun.new.under in
     let own : operation_at c.args.program.now v.state ≡ Some u.op = c.begun.ensures.op in
-    rw (← c.self.view_is, own) (turned-by v (view_of (record { state = i.state; lengths = i.lengths; started = i.started; under = c.resume.new.under; acting = true; owes = i.owes; heard = i.heard; log = c.see.new.self })) c.settle-in-Ask.new.self i.state u (g.P.Port.seat c.args.port.now) (g.P.Port.seat c.ask-answer.new.port) (word_step c.in-Ask.step) c.ask-answer.result.1 c.settle-in-Ask.result refl (did g c).stepped (rw (c.see.ensures, c.stand.ensures, c.resume.ensures.op) refl) c.settle-in-Ask.ensures.new c.settle-in-Ask.ensures.turn)
+    rw (← c.self.view_is, own) (turned-by v (view_of (record { state = i.state; lengths = i.lengths; started = i.started; under = c.resume.new.under; acting = true; owes = i.owes; heard = i.heard; log = c.see.new.self })) c.settle-in-Ask.new.self i.state u (g.P.Port.seat c.args.port.now) (g.P.Port.seat c.ask-answer.new.port) (word_step c.in-Ask.step) c.ask-answer.result.1 (turn_of c.settle-in-Ask.result (asked_next c.settle-in-Ask.new.self)) refl (did g c).stepped (rw (c.see.ensures, c.stand.ensures, c.resume.ensures.op) refl) c.settle-in-Ask.ensures.new (told-turn _ _ _ _ c.settle-in-Ask.ensures.turn))
 
 pub returns-in-Ask-clause-serves : goal.returns-in-Ask-clause-serves
 returns-in-Ask-clause-serves g c =
@@ -112,3 +112,20 @@ returns-in-Ask-clause-serves g c =
       limits = ap (λ (z : Seat). z.limits) st.makes.after ∙ limits ∙ sym c.settle-in-Ask.ensures.same.limits;
       vp = ap (λ (z : Seat). z.vp) st.makes.after ∙ vp ∙ sym c.settle-in-Ask.ensures.same.number;
     }
+
+pub returns-in-Want-clause-turned : goal.returns-in-Want-clause-turned
+returns-in-Want-clause-turned g c =
+    let i = c.self.inside in
+    let v = view_of i in
+    let u = c.begun.new.under in
+    let started : i.started ≡ true = rw (← c.self.view_is) at c.requires.started in
+    let way : IsUnderWay i.state u i.heard i.log.seen.0 i.log.part i.log.first = c.begun.ensures.means i.heard i.log.seen.0 i.log.part i.log.first (c.self.invariant.means started) in
+    let own : operation_at c.args.program.now v.state ≡ Some u.op = c.begun.ensures.op in
+    let on = wants-on (origin_of i.state) u _ _ c.in-Want.ensures.head in
+    rw (← c.self.view_is, own) (wanted-turn v _ u.op _ on.k (g.P.Port.seat c.args.port.now) (sym way.rest ∙ on.is) started (rw c.stand.ensures refl))
+
+pub returns-in-End-clause-owes : goal.returns-in-End-clause-owes
+returns-in-End-clause-owes g c = c.settle.ensures.owes ∙ sym (quiet-turn _ _ _ c.settle.ensures.turn)
+
+pub returns-in-Ask-clause-owes : goal.returns-in-Ask-clause-owes
+returns-in-Ask-clause-owes g c = c.settle-in-Ask.ensures.owes ∙ sym (quiet-turn _ _ _ c.settle-in-Ask.ensures.turn)

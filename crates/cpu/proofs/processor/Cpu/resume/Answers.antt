@@ -5,9 +5,11 @@ use Rattle.attempt.specs.Rests.{rest_of}
 use Rattle.vsm_core.specs.Tree.{Wants}
 use Rattle.attempt.specs.Views.{origin_of}
 use Rattle.cpu.specs.Sound.{view_of}
+use Rattle.cpu.specs.Turns.{turn_of}
 use Rattle.cpu.specs.UnderWay.{Means}
 use Rattle.cpu.proofs.Replies.{accepted-by, replied-under}
 use Rattle.cpu.proofs.Settled.{Way, left-so, way-of}
+use Rattle.cpu.proofs.Turning.{quiet-turn, told-turn}
 use Rattle.cpu.proofs.processor.Cpu.resume.Goals as goal
 
 pub invariant_of-self : goal.invariant_of-self
@@ -43,5 +45,8 @@ returns-clause-accepted c =
     let asked = c.in-Want.asked in
     let from = origin_of i.state in
     let wants : rest_of from i.under ≡ Wants (request_for from i.under asked) (by_answer from asked) = rw c.in-Want.ensures.at refl in
-    rw (← c.self.view_is) (accepted-by (view_of i) (view_of (record { state = i.state; lengths = i.lengths; started = i.started; under = c.replied.new.under; acting = i.acting; owes = false; heard = Some (record { after = length c.as_slice.result.now - i.log.first; reply = c.args.reply }); log = i.log })) c.settle.new.self c.args.reply _ _ c.settle.result (left-so i (owing.acting started) ∙ sym way.rest ∙ wants) owing.unheard
-    (rw (c.as_slice.ensures, owing.acting started, c.replied.ensures.op) refl) c.settle.ensures.new c.settle.ensures.turn)
+    rw (← c.self.view_is) (accepted-by (view_of i) (view_of (record { state = i.state; lengths = i.lengths; started = i.started; under = c.replied.new.under; acting = i.acting; owes = false; heard = Some (record { after = length c.as_slice.result.now - i.log.first; reply = c.args.reply }); log = i.log })) c.settle.new.self c.args.reply _ _ (turn_of c.settle.result None) (left-so i (owing.acting started) ∙ sym way.rest ∙ wants) owing.unheard
+    (rw (c.as_slice.ensures, owing.acting started, c.replied.ensures.op) refl) c.settle.ensures.new (told-turn _ _ _ None c.settle.ensures.turn))
+
+pub returns-clause-quiet : goal.returns-clause-quiet
+returns-clause-quiet c = quiet-turn _ _ _ c.settle.ensures.turn

@@ -1,7 +1,8 @@
-use Rattle.std.proofs.Common.{◌≡◌, ◌≢◌, ◌∙◌, true, false, None, refl, sym}
+use Rattle.std.proofs.Common.{◌≡◌, ◌≢◌, ◌∙◌, true, false, None, refl, sym, ap}
 use Rattle.vsm_core.specs.Processor.{IsShort}
 use Rattle.attempt.specs.Views.{origin_of}
 use Rattle.cpu.specs.Sound.{view_of}
+use Rattle.cpu.specs.Turns.{pace_of}
 use Rattle.cpu.specs.UnderWay.{op_of}
 use Rattle.cpu.proofs.Lists.{one-new}
 use Rattle.cpu.proofs.Settled.{IsAtEnd, Way, acting-on, at-end, decided-at, left-so, marked-sound, settled-so, short-so, vain, way-of}
@@ -50,7 +51,7 @@ returns-in-Ask-clause-turn c =
     let some : op_of i.acting i.under ≢ None = rw (← c.self.view_is) at c.requires.under in
     let acting : i.acting ≡ true = acting-on i.acting i.under some in
     let way : Way i = way-of i c.self.invariant (rw (← c.self.view_is) at c.requires.started) acting in
-    rw (← c.self.view_is, left-so i acting, ← way.rest) (answer-moves _ i.log.ended (asks-open _ _ (steps-on (origin_of i.state) i.under _ _ c.in-Ask.ensures.head)))
+    rw (← c.self.view_is, left-so i acting, ← way.rest) (ap pace_of (answer-moves _ i.log.ended (asks-open _ _ (steps-on (origin_of i.state) i.under _ _ c.in-Ask.ensures.head))))
 
 pub returns-in-None-clause-new : goal.returns-in-None-clause-new
 returns-in-None-clause-new c =

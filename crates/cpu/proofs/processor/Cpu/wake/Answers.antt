@@ -1,4 +1,4 @@
-use Rattle.std.proofs.Common.{arith, ◌≡◌, ◌<◌, ◌≤◌, length, refl}
+use Rattle.std.proofs.Common.{arith, ◌≡◌, ◌<◌, ◌≤◌, false, length, refl}
 use Rattle.cpu.specs.Sound.{view_of}
 use Rattle.cpu.proofs.Waking.{woken-asks, woken-looks}
 use Rattle.cpu.proofs.processor.Cpu.wake.Goals as goal
@@ -6,10 +6,11 @@ use Rattle.cpu.proofs.processor.Cpu.wake.Goals as goal
 pub returns-then-self-as_slice-clause-woken : goal.returns-then-self-as_slice-clause-woken
 returns-then-self-as_slice-clause-woken g c =
     let i = c.self.inside in
-    let w = c.self.invariant.waiting (rw (← c.self.view_is) at c.requires.waits) in
+    let off : i.started ≡ false = rw (← c.self.view_is) at c.requires.waits in
+    let w = c.self.invariant.waiting off in
     let more : i.log.first < length i.log.seen.0 = rw c.as_slice.ensures at c.if-self-as_slice.true in
     let one : length i.log.seen.0 ≡ 1 = omega (arith, more, w.few) in
-    rw (← c.self.view_is) (woken-asks (view_of i) _ (g.P.Port.seat c.args.port.now) c.fetch.result w one refl c.fetch.ensures)
+    rw (← c.self.view_is) (woken-asks (view_of i) _ (g.P.Port.seat c.args.port.now) off w one refl)
 
 pub returns-clause-woken : goal.returns-clause-woken
 returns-clause-woken g c =
