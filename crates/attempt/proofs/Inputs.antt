@@ -17,8 +17,8 @@ use Rattle.rep_frame.specs.Asks.{look_call}
 use Rattle.rep_frame.specs.Frames.{Frame, frame_of}
 use Rattle.rep_frame.specs.Slices.{slice_numbers as frame_numbers, slice_settings}
 use Rattle.rep_frame.specs.declared.getting.Look.{Look as Register}
-use Rattle.attempt.specs.declared.input.Asked.TheVariants.{Look}
-use Rattle.attempt.specs.declared.site.Site.{Site}
+use Rattle.attempt.specs.declared.stage.Asked.TheVariants.{Look}
+use Rattle.attempt.specs.declared.stage.Site.{Site}
 use Rattle.attempt.specs.declared.stage.Stage.TheVariants.{Depart}
 use Rattle.attempt.specs.declared.under.Under.{Under}
 use Rattle.attempt.specs.Rests.{stage_rest}

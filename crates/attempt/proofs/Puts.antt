@@ -9,7 +9,7 @@ use Rattle.vsm_core.specs.RegisterCalls.{value_words}
 use Rattle.vsm_core.specs.Tree.{WordStep, after, asks_all}
 use Rattle.vsm_base.specs.declared.places.Access.TheVariants.{Write}
 use Rattle.vsm_core.specs.declared.request.Reply.{Reply}
-use Rattle.attempt.specs.declared.site.Site.{Site}
+use Rattle.attempt.specs.declared.stage.Site.{Site}
 use Rattle.attempt.specs.declared.stage.Inner.TheVariants.{Output}
 use Rattle.attempt.specs.declared.under.Under.{Under}
 use Rattle.attempt.specs.Calls.{looked_at}

@@ -18,10 +18,10 @@ use Rattle.hyper_abi.specs.declared.form.Call.{Call}
 use Rattle.hyper_abi.specs.declared.interrupt.Interrupt.{Interrupt}
 use Rattle.hyper_abi.specs.Told.{row_for}
 use Rattle.rep_frame.specs.Asks.{look_call}
-use Rattle.attempt.specs.declared.input.Asked.{Asked}
-use Rattle.attempt.specs.declared.input.Asked.TheVariants.{EnablePartition, EnableVp, Start, Modify, Flush, Write, Look}
-use Rattle.attempt.specs.declared.input.Sending.{Sending}
-use Rattle.attempt.specs.declared.site.Site.{Site}
+use Rattle.attempt.specs.declared.stage.Asked.{Asked}
+use Rattle.attempt.specs.declared.stage.Asked.TheVariants.{EnablePartition, EnableVp, Start, Modify, Flush, Write, Look}
+use Rattle.attempt.specs.declared.stage.Sending.{Sending}
+use Rattle.attempt.specs.declared.stage.Site.{Site}
 use Rattle.attempt.specs.declared.under.Under.{Under}
 
 -- how many words the header of a call has, and those that were read

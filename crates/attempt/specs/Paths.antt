@@ -8,7 +8,7 @@ use Rattle.vsm_core.specs.Fills.{Fill}
 use Rattle.vsm_core.specs.Tree.{Tree, Ends, Asks, Checking, Masking}
 use Rattle.page_walk.specs.Half.{Stands}
 use Rattle.page_walk.specs.Told.{translation_of}
-use Rattle.attempt.specs.declared.aim.Aim.{Aim}
+use Rattle.attempt.specs.declared.place.Aim.{Aim}
 use Rattle.attempt.specs.declared.place.Fill.{Fill as Kept}
 use Rattle.attempt.specs.declared.place.Path.{Path}
 use Rattle.attempt.specs.declared.place.Place.{Place}

@@ -1,9 +1,11 @@
 -- What is left of an attempt at its stages.
 use Rattle.std.specs.Prelude.{◌≡◌, ℕ, ◌+◌, ◌*◌, ◌/◌, ◌%◌, ◌^◌, ◌<◌, ◌≤◌, true, false, is_some, Option, Some, None, IfSome, List, ◌++◌, take, drop}
+use Rattle.vsm_base.specs.declared.places.Access.{Access as Reach}
 use Rattle.vsm_base.specs.declared.places.Access.TheVariants.{Read, Write}
 use Rattle.vsm_base.specs.declared.name.Name.{Name}
 use Rattle.vsm_core.specs.declared.note.Note.{Note}
-use Rattle.vsm_core.specs.Attempt.{left_with, in_access_from, posting, told_on, tells, hit_tells, sends, polled, leaves, by_page_mask, behind_page_mask, reads_input, reads_slice, by_input}
+use Rattle.vsm_core.specs.declared.operation.Op.{Op}
+use Rattle.vsm_core.specs.Attempt.{left_with, in_access_from, posting, told_on, tells, hit_tells, sends, polled, leaves, by_page_mask, behind_page_mask, reads_input, reads_slice, by_input, by_access, goal_of}
 use Rattle.vsm_core.specs.Controllers.{message_page, vector_words}
 use Rattle.vsm_core.specs.Hypercalls.{has_output, output_address}
 use Rattle.vsm_core.specs.Outcomes.{Origin, Outcome, note_of, plain, register_note}
@@ -12,13 +14,14 @@ use Rattle.vsm_core.specs.Reps.{words_between}
 use Rattle.vsm_core.specs.Switch.{assist_page, by_interrupt, may_enter, may_return, returned, rax_index, rcx_index}
 use Rattle.vsm_core.specs.Tree.{Tree, Ends, Asks, Checking, Masking, Reading, Leaving, then_, asks_all, takes, reads}
 use Rattle.hyper_abi.specs.Told.{row_for}
-use Rattle.attempt.specs.declared.decided.Decided.{Decided}
-use Rattle.attempt.specs.declared.decided.Decided.TheVariants.{Granted, Set}
-use Rattle.attempt.specs.declared.input.Reads.{Reads}
-use Rattle.attempt.specs.declared.refusal.Refusal.{Refusal}
-use Rattle.attempt.specs.declared.site.Site.{Site}
+use Rattle.attempt.specs.declared.stage.Decided.{Decided}
+use Rattle.attempt.specs.declared.stage.Decided.TheVariants.{Granted, Set}
+use Rattle.attempt.specs.declared.stage.Reads.{Reads}
+use Rattle.attempt.specs.declared.stage.Refusal.{Refusal}
+use Rattle.attempt.specs.declared.stage.Site.{Site}
 use Rattle.attempt.specs.declared.stage.Behind.{Behind}
 use Rattle.attempt.specs.declared.stage.Behind.TheVariants as behinds
+use Rattle.attempt.specs.declared.stage.Gate.{Gate}
 use Rattle.attempt.specs.declared.stage.Inner.{Inner}
 use Rattle.attempt.specs.declared.stage.Inner.TheVariants as inners
 use Rattle.attempt.specs.declared.stage.Matter.{Matter}
@@ -27,7 +30,7 @@ use Rattle.attempt.specs.declared.stage.Stage.{Stage}
 use Rattle.attempt.specs.declared.stage.Stage.TheVariants.{Access, Enter, Check, Mask, Look, Rax, Rcx, Header, Slice, Make, Take, Depart, Want, Quit, Send, End}
 use Rattle.attempt.specs.declared.under.Under.{Under}
 use Rattle.attempt.specs.Calls.{AskedIs, SendIs, asks_for, header_of, header_words, sends_now}
-use Rattle.attempt.specs.Paths.{IsPlaced, path_rest}
+use Rattle.attempt.specs.Paths.{IsPlaced, is_aligned, path_rest}
 use Rattle.attempt.specs.Plans.{PlanIs, planned}
 use Rattle.attempt.specs.Results.{done_by, granted_of, hit_note, refusal_of, result_of}
 
@@ -76,6 +79,11 @@ behind_rest from u behinds.Input generation = output_masked from u.head.output g
 behind_rest from u behinds.Words generation = words_rest from u
 behind_rest from u behinds.Make generation = made_rest from u
 
+-- what comes where a page's mask binds level 0
+abbrev pub gate_rest : Origin → Under → Gate → Tree Outcome
+gate_rest from u gate =
+    behind_page_mask from.state.active from gate.access gate.site.address gate.generation (behind_rest from u gate.behind gate.generation)
+
 -- what comes once the generation is checked
 abbrev pub inner_rest : Origin → Under → Inner → (generation : ℕ) → Tree Outcome
 inner_rest from u (inners.Look page matter) generation = Asks (Reading page.0 0) (by_word from u matter)
@@ -89,6 +97,11 @@ inner_rest from u (inners.Output site) generation =
 -- the rest of a run of reads, which has found these words so far
 abbrev pub reads_rest : Reads → List ℕ → (List ℕ → Tree Outcome) → Tree Outcome
 reads_rest r words rest = reads r.page.0 r.index r.left (take r.done words) rest
+
+-- what is left of an operation that makes one access
+abbrev pub reaching : Origin → Op → Reach → (gva value : ℕ) → Tree Outcome
+reaching from op access gva value =
+    by_access from (granted_of from.state op) (goal_of from.pages from.state access (is_aligned access) gva value)
 
 -- what is left at a stage
 abbrev pub stage_rest : Origin → Under → Stage → Tree Outcome

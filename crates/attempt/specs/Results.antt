@@ -22,9 +22,9 @@ use Rattle.vsm_core.specs.State.{State, gone_to}
 use Rattle.vsm_core.specs.Switch.{may_enter, may_call, may_return, called, returned}
 use Rattle.rep_frame.specs.Frames.{Frame, frame_of}
 use Rattle.rep_frame.specs.Slices.{end_of, setting_refusals, slice_set, slice_settings}
-use Rattle.attempt.specs.declared.decided.Decided.{Decided}
-use Rattle.attempt.specs.declared.decided.Decided.TheVariants as by
-use Rattle.attempt.specs.declared.refusal.Refusal.{Refusal}
+use Rattle.attempt.specs.declared.stage.Decided.{Decided}
+use Rattle.attempt.specs.declared.stage.Decided.TheVariants as by
+use Rattle.attempt.specs.declared.stage.Refusal.{Refusal}
 use Rattle.attempt.specs.declared.under.Under.{Under}
 use Rattle.attempt.specs.Paths.{fill_of, filled_by, grant_of}
 

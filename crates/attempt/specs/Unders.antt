@@ -1,9 +1,9 @@
 -- An attempt under way that was decided.
 use Rattle.std.specs.Prelude.{ℕ, Option, None}
 use Rattle.vsm_base.specs.declared.places.Page.{Page}
-use Rattle.attempt.specs.declared.decided.Decided.{Decided}
-use Rattle.attempt.specs.declared.input.Asked.{Asked}
-use Rattle.attempt.specs.declared.plan.Plan.{Plan}
+use Rattle.attempt.specs.declared.stage.Decided.{Decided}
+use Rattle.attempt.specs.declared.stage.Asked.{Asked}
+use Rattle.attempt.specs.declared.stage.Plan.{Plan}
 use Rattle.attempt.specs.declared.stage.Stage.TheVariants.{Make, Depart, End}
 use Rattle.attempt.specs.declared.under.Under.{Under}
 

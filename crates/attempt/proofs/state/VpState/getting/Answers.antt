@@ -8,7 +8,7 @@ use Rattle.vsm_core.specs.Targets.{target_level}
 use Rattle.rep_frame.specs.Asks.{look_call, look_calls}
 use Rattle.rep_frame.specs.Frames.{frame_of}
 use Rattle.rep_frame.specs.Slices.{slice_numbers}
-use Rattle.attempt.specs.declared.site.Site.{Site}
+use Rattle.attempt.specs.declared.stage.Site.{Site}
 use Rattle.attempt.specs.declared.under.Under.{Under}
 use Rattle.attempt.specs.Rests.{rest_of}
 use Rattle.attempt.specs.Views.{VpView, origin_of}

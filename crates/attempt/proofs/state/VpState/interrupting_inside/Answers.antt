@@ -2,7 +2,7 @@ use Rattle.std.proofs.Common.{◌≡◌, ◌∙◌, ap, sym}
 use Rattle.vsm_core.specs.Calls.{result_value}
 use Rattle.vsm_core.specs.Outcomes.{Outcome}
 use Rattle.vsm_core.specs.Tree.{Tree, Asks, Leaving}
-use Rattle.attempt.specs.declared.decided.Decided.TheVariants.{Replied}
+use Rattle.attempt.specs.declared.stage.Decided.TheVariants.{Replied}
 use Rattle.attempt.specs.Rests.{rest_of}
 use Rattle.attempt.specs.Unders.{left}
 use Rattle.attempt.specs.Views.{origin_of}

@@ -3,7 +3,7 @@ use Rattle.vsm_core.specs.Controllers.{writes}
 use Rattle.vsm_core.specs.Hypercalls.{result_outcome}
 use Rattle.vsm_core.specs.Outcomes.{Origin}
 use Rattle.vsm_core.specs.RegisterCalls.{value_words}
-use Rattle.attempt.specs.declared.site.Site.{Site}
+use Rattle.attempt.specs.declared.stage.Site.{Site}
 use Rattle.attempt.specs.declared.stage.Inner.TheVariants.{Output}
 use Rattle.attempt.specs.declared.stage.Stage.TheVariants.{Enter}
 use Rattle.attempt.specs.declared.under.Under.{Under}

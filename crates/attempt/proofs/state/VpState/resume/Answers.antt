@@ -5,7 +5,7 @@ use Rattle.vsm_core.specs.Attempt.{leaves, polled}
 use Rattle.vsm_core.specs.Controllers.{vector_words}
 use Rattle.vsm_core.specs.Outcomes.{Origin}
 use Rattle.vsm_core.specs.Tree.{Tree, after, takes, then_}
-use Rattle.attempt.specs.declared.aim.Aim.{Aim}
+use Rattle.attempt.specs.declared.place.Aim.{Aim}
 use Rattle.attempt.specs.declared.place.Path.{Path}
 use Rattle.attempt.specs.declared.stage.Stage.{Stage}
 use Rattle.attempt.specs.declared.under.Under.{Under}

@@ -1,6 +1,6 @@
 use Rattle.std.proofs.Common.{◌≡◌, ◌∙◌, ap, sym}
 use Rattle.vsm_core.specs.Calls.{result_value}
-use Rattle.attempt.specs.declared.decided.Decided.TheVariants.{Replied}
+use Rattle.attempt.specs.declared.stage.Decided.TheVariants.{Replied}
 use Rattle.attempt.specs.Rests.{rest_of}
 use Rattle.attempt.specs.Unders.{ended}
 use Rattle.attempt.specs.Views.{origin_of}
