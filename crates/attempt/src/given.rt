@@ -52,12 +52,11 @@ fn decided_by(frame: &RepFrame, end: SliceEnd) -> Decided
     }
 }
 
-/// A call is refused for its header. The elements before its first are done.
-fn refused(start: u16, status: HvStatus) -> Decided
-    requires { start < 4096 }
-    ensures { result ≡ Decided.Replied (result_value status start) }
+/// A call has come to this status, with so many elements done.
+pub fn answered(status: HvStatus, done: u16) -> Decided
+    requires { done < 4096 }
+    ensures { result ≡ Decided.Replied (result_value status done) }
 {
-    let done = start;
     Decided::Replied(ResultValue { status, done }.bits())
 }
 
@@ -97,7 +96,7 @@ impl VpState {
         let active = self.levels.active();
         let header = front_of(&under.header);
         if let Some(status) = register_refusal(self.limits.vps, self.number, active, &header) {
-            under.leave(refused(start, status));
+            under.leave(answered(status, start));
             return;
         }
         let target = target_level(active, &header);
@@ -128,7 +127,7 @@ impl VpState {
         let active = self.levels.active();
         let header = front_of(&under.header);
         if let Some(status) = register_refusal(self.limits.vps, self.number, active, &header) {
-            under.leave(refused(start, status));
+            under.leave(answered(status, start));
             return;
         }
         let frame = RepFrame::new(count, start);
@@ -221,13 +220,6 @@ fn sending_on(interrupt: Interrupt, first: u8, past: u8) -> Sends
     }
 }
 
-/// The result value of a call that has no elements.
-fn result_of(status: HvStatus) -> Decided
-    ensures { result ≡ Decided.Replied (result_value status 0) }
-{
-    Decided::Replied(ResultValue { status, done: 0 }.bits())
-}
-
 impl Sending {
     /// The next post.
     pub fn next_post(&self) -> Step
@@ -267,7 +259,7 @@ impl VpState {
     {
         match self.judged(&front_of(&under.header)) {
             Sends::Post(sending) => under.stage = Stage::Send { sending },
-            Sends::Over(status) => under.end(result_of(status)),
+            Sends::Over(status) => under.end(answered(status, 0)),
         }
     }
 
@@ -280,7 +272,7 @@ impl VpState {
     {
         match self.judged(&front_of(&under.header)) {
             Sends::Post(sending) => under.stage = Stage::Quit { sending },
-            Sends::Over(status) => under.leave(result_of(status)),
+            Sends::Over(status) => under.leave(answered(status, 0)),
         }
     }
 
@@ -293,7 +285,7 @@ impl VpState {
     {
         match sending_on(sending.interrupt, sending.next + 1, sending.past) {
             Sends::Post(sending) => under.stage = Stage::Send { sending },
-            Sends::Over(status) => under.end(result_of(status)),
+            Sends::Over(status) => under.end(answered(status, 0)),
         }
     }
 }

@@ -1,5 +1,5 @@
 // The first stage of a hypercall, and how it reads its input.
-ghost use Rattle.std.specs.Prelude.{◌≡◌, ◌/◌, ◌%◌, ◌*◌, ◌+◌, ◌<◌, ◌≤◌, ◌^◌, true, IfSome, is_some, ℕ, List};
+ghost use Rattle.std.specs.Prelude.{◌≡◌, ◌/◌, ◌%◌, ◌*◌, ◌+◌, ◌<◌, ◌≤◌, ◌^◌, true, IfSome, is_some, ℕ, List, take};
 ghost use Rattle.hyper_abi.specs.Told.{row_for};
 ghost use Rattle.vsm_core.specs.Attempt.{hypercall_tree, by_memory, by_registers, reads_slice, by_input};
 ghost use Rattle.vsm_core.specs.Hypercalls.{fast_words, has_output, input_address, output_address};
@@ -13,10 +13,11 @@ ghost use Rattle.attempt.specs.Nexts.{IsNext};
 ghost use Rattle.attempt.specs.Rests.{rest_of, StageIs, reads_rest, slice_words, words_rest, IsHead, ReadsIs};
 ghost use Rattle.attempt.specs.Views.{origin_of};
 
+use crate::given::answered;
 use crate::stage::{Asked, Decided, Head, Inner, Reads, Site, Stage, Step};
 use crate::state::VpState;
 use crate::under::Under;
-use hyper_abi::{Call, ResultValue, admit};
+use hyper_abi::{Call, admit};
 use vsm_base::Name;
 use vsm_core::GuestFault;
 use vtl_state::{privilege_of, word_of};
@@ -53,6 +54,14 @@ impl VpState {
         };
     }
 
+    /// The two words of an input in registers go to the front of a header.
+    fn put_fast(&self, header: &mut [u64; 32])
+        ensures { take 2 header.new ≡ fast_words self.now.state }
+    {
+        header[0] = word_of(&self.bank, &self.levels, Name::Rdx);
+        header[1] = word_of(&self.bank, &self.levels, Name::R8);
+    }
+
     /// The first stage of a call whose input stands in registers, which nothing refuses.
     fn fast(&self, under: &mut Under, call: Call)
         requires few { self.now.limits.vps ≤ 8 }
@@ -61,8 +70,7 @@ impl VpState {
         ensures is { StageIs (origin_of self.now) under.new }
         ensures op { under.new.op ≡ under.old.op }
     {
-        under.header[0] = word_of(&self.bank, &self.levels, Name::Rdx);
-        under.header[1] = word_of(&self.bank, &self.levels, Name::R8);
+        self.put_fast(&mut under.header);
         match call {
             Call::SendSyntheticClusterIpi => self.interrupting(under),
             Call::EnablePartitionVtl => {
@@ -91,7 +99,7 @@ impl VpState {
         match admit(self.limits.pages, value, address, output) {
             Ok(admission) if admission.fast => self.fast(under, admission.call),
             Ok(admission) => self.placed(under, admission.call),
-            Err(status) => under.end(Decided::Replied(ResultValue { status, done: 0 }.bits())),
+            Err(status) => under.end(answered(status, 0)),
         }
     }
 }

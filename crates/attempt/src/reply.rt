@@ -11,6 +11,7 @@ ghost use Rattle.attempt.specs.Views.{origin_of};
 
 use arrayvec::ArrayVec;
 use crate::under::front_of;
+use crate::given::answered;
 use crate::plans::put_words;
 use crate::stage::{Asked, Decided, Inner, Site, Stage};
 use crate::state::VpState;
@@ -80,12 +81,10 @@ impl VpState {
         ensures op { under.new.op ≡ under.old.op }
     {
         let (_, count) = self.elements();
-        let status = reply.status;
-        let done = reply.done;
-        if status == HvStatus::SUCCESS && done < count {
-            under.end(Decided::Part(done));
+        if reply.status == HvStatus::SUCCESS && reply.done < count {
+            under.end(Decided::Part(reply.done));
         } else {
-            under.end(Decided::Replied(ResultValue { status, done }.bits()));
+            under.end(answered(reply.status, reply.done));
         }
     }
 
@@ -117,13 +116,9 @@ impl VpState {
         ensures op { under.new.op ≡ under.old.op }
     {
         let (site, at) = at;
-        let status = reply.status;
-        let done = reply.done;
         put_pair(&mut under.output, reply.value);
-        under.make(
-            put_words(site.page, at, 2),
-            Decided::Replied(ResultValue { status, done }.bits()),
-        );
+        let decided = answered(reply.status, reply.done);
+        under.make(put_words(site.page, at, 2), decided);
         under.stage = Stage::Enter {
             inner: Inner::Output { site },
         };

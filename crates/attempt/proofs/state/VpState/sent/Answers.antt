@@ -19,5 +19,5 @@ returns-in-Post-clause-is c =
 pub returns-in-Over-clause-rest : goal.returns-in-Over-clause-rest
 returns-in-Over-clause-rest c =
     let over = rw c.in-Over.is at (c.sending_on.ensures (origin_of c.args.self.now) c.requires.past) in
-    let end : c.end.new.self ≡ ended c.args.under.now (Replied (result_value c.in-Over.status 0)) = c.end.ensures ∙ ap (ended c.args.under.now) c.result_of.ensures in
+    let end : c.end.new.self ≡ ended c.args.under.now (Replied (result_value c.in-Over.status 0)) = c.end.ensures ∙ ap (ended c.args.under.now) c.answered.ensures in
     ap (rest_of (origin_of c.args.self.now)) end ∙ sym over
