@@ -199,3 +199,9 @@ IsAt from u End = DecidedIs from u u.decided
 
 abbrev pub StageIs : Origin → Under → Type 0
 StageIs from u = IsAt from u u.stage
+
+-- the attempt goes on at a stage where this is left of it
+pub record LeadsTo (from : Origin) (old new : Under) (tree : Tree Outcome) : Type 0 where
+  pub rest : rest_of from new ≡ tree
+  pub is : StageIs from new
+  pub op : new.op ≡ old.op

@@ -7,7 +7,7 @@ ghost use Rattle.vsm_core.specs.Switch.{may_enter as may_enter_lem};
 ghost use Rattle.vsm_core.specs.Tree.{takes};
 ghost use Rattle.vsm_core.specs.declared.operation.Op.TheVariants as ops;
 ghost use Rattle.attempt.specs.Paths.{goal_of, is_aligned};
-ghost use Rattle.attempt.specs.Rests.{reaching, rest_of, StageIs};
+ghost use Rattle.attempt.specs.Rests.{reaching, rest_of, StageIs, LeadsTo};
 ghost use Rattle.attempt.specs.Results.{granted_of, hit_note};
 ghost use Rattle.attempt.specs.Views.{origin_of};
 ghost use Rattle.attempt.specs.Words.{word_at};
@@ -35,7 +35,8 @@ impl VpState {
     {
         under.op = op;
         match op {
-            Op::Load(_, gva) | Op::Spin(gva, _) => self.accessing(under, Access::Read, gva, 0),
+            Op::Load(_, gva) => self.accessing(under, Access::Read, gva, 0),
+            Op::Spin(gva, _) => self.accessing(under, Access::Read, gva, 0),
             Op::Store(gva, what) => self.accessing(under, Access::Write, gva, self.operand(what)),
             Op::Exec(gva) => self.accessing(under, Access::Execute, gva, 0),
             Op::Set(name, value) => self.setting(under, name, value),
@@ -86,9 +87,7 @@ impl VpState {
 
     /// The first stage of an operation that makes one access.
     fn accessing(&self, under: &mut Under, access: Access, gva: Gva, value: u64)
-        ensures rest { rest_of (origin_of self.now) under.new ≡ reaching (origin_of self.now) under.old.op access gva.0 value }
-        ensures is { StageIs (origin_of self.now) under.new }
-        ensures op { under.new.op ≡ under.old.op }
+        ensures { LeadsTo (origin_of self.now) under.old under.new (reaching (origin_of self.now) under.old.op access gva.0 value) }
     {
         let aim = self.aim(access, gva, value);
         match may_start(&aim) {
@@ -103,9 +102,7 @@ impl VpState {
 
     /// The first stage of an end of message.
     fn ending(&self, under: &mut Under)
-        ensures rest { rest_of (origin_of self.now) under.new ≡ eom_tree (origin_of self.now) }
-        ensures is { StageIs (origin_of self.now) under.new }
-        ensures op { under.new.op ≡ under.old.op }
+        ensures { LeadsTo (origin_of self.now) under.old under.new (eom_tree (origin_of self.now)) }
     {
         under.end(Decided::Eom(None));
         match self.levels.active() {
@@ -131,9 +128,7 @@ const BY_CALL: u32 = 1;
 impl VpState {
     /// The first stage of a call.
     pub fn calling(&self, under: &mut Under)
-        ensures rest { rest_of (origin_of self.now) under.new ≡ call_tree (origin_of self.now) }
-        ensures is { StageIs (origin_of self.now) under.new }
-        ensures op { under.new.op ≡ under.old.op }
+        ensures { LeadsTo (origin_of self.now) under.old under.new (call_tree (origin_of self.now)) }
     {
         under.end(Decided::Called);
         match call_kind(&self.bank, &self.levels, self.limits.pages) {
@@ -147,9 +142,7 @@ impl VpState {
 
     /// The first stage of a return.
     pub fn returning(&self, under: &mut Under)
-        ensures rest { rest_of (origin_of self.now) under.new ≡ return_tree (origin_of self.now) }
-        ensures is { StageIs (origin_of self.now) under.new }
-        ensures op { under.new.op ≡ under.old.op }
+        ensures { LeadsTo (origin_of self.now) under.old under.new (return_tree (origin_of self.now)) }
     {
         under.end(Decided::Returned(None));
         match return_kind(&self.bank, &self.levels, self.limits.pages) {
@@ -175,9 +168,7 @@ impl VpState {
     /// touches words.
     fn intercepting(&self, under: &mut Under)
         requires { may_enter_lem self.now.state ≡ true }
-        ensures rest { rest_of (origin_of self.now) under.new ≡ intercepted (origin_of self.now) (hit_note (origin_of self.now) under.old.op) }
-        ensures is { StageIs (origin_of self.now) under.new }
-        ensures op { under.new.op ≡ under.old.op }
+        ensures { LeadsTo (origin_of self.now) under.old under.new (intercepted (origin_of self.now) (hit_note (origin_of self.now) under.old.op)) }
     {
         under.end(Decided::Hit(None));
         if let Some(page) = self.message_page() {
@@ -216,9 +207,7 @@ impl VpState {
     /// The first stage of a write of a register (TLFS, HV_REGISTER_CR_INTERCEPT_CONTROL).
     pub fn setting(&self, under: &mut Under, name: Name, value: u128)
         requires { under.old.op ≡ ops.Set name value }
-        ensures rest { rest_of (origin_of self.now) under.new ≡ set_tree (origin_of self.now) name value }
-        ensures is { StageIs (origin_of self.now) under.new }
-        ensures op { under.new.op ≡ under.old.op }
+        ensures { LeadsTo (origin_of self.now) under.old under.new (set_tree (origin_of self.now) name value) }
     {
         if self.is_write_hit(name, value) {
             self.intercepting(under);
@@ -230,9 +219,7 @@ impl VpState {
     /// The first stage of a read of a register.
     pub fn getting_one(&self, under: &mut Under, name: Name)
         requires { under.old.op ≡ ops.Get name }
-        ensures rest { rest_of (origin_of self.now) under.new ≡ get_tree (origin_of self.now) name }
-        ensures is { StageIs (origin_of self.now) under.new }
-        ensures op { under.new.op ≡ under.old.op }
+        ensures { LeadsTo (origin_of self.now) under.old under.new (get_tree (origin_of self.now) name) }
     {
         if self.is_read_hit(name) {
             self.intercepting(under);
@@ -284,9 +271,7 @@ impl VpState {
 
     /// A poll has taken all words.
     fn polled(&self, under: &mut Under)
-        ensures rest { rest_of (origin_of self.now) under.new ≡ polled_lem (origin_of self.now) under.old.taken }
-        ensures is { StageIs (origin_of self.now) under.new }
-        ensures op { under.new.op ≡ under.old.op }
+        ensures { LeadsTo (origin_of self.now) under.old under.new (polled_lem (origin_of self.now) under.old.taken) }
     {
         under.end(Decided::Polled);
         if !self.is_wanted(&under.taken) {
@@ -301,9 +286,7 @@ impl VpState {
     /// A poll has taken so many words.
     pub fn taken(&self, under: &mut Under, count: u8)
         requires { count ≤ 8 }
-        ensures rest { rest_of (origin_of self.now) under.new ≡ takes (drop count vector_words) (take count under.old.taken) (polled_lem (origin_of self.now)) }
-        ensures is { StageIs (origin_of self.now) under.new }
-        ensures op { under.new.op ≡ under.old.op }
+        ensures { LeadsTo (origin_of self.now) under.old under.new (takes (drop count vector_words) (take count under.old.taken) (polled_lem (origin_of self.now))) }
     {
         if count < WORDS {
             under.stage = Stage::Take { count };

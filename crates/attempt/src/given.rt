@@ -12,7 +12,7 @@ ghost use Rattle.vsm_core.specs.Tree.{Asks, Leaving};
 ghost use Rattle.attempt.specs.Asked.{word_step};
 ghost use Rattle.attempt.specs.Calls.{header_of, SendIs, sends_from, sends_now};
 ghost use Rattle.attempt.specs.Nexts.{IsNext};
-ghost use Rattle.attempt.specs.Rests.{rest_of, slice_words, DecidedIs, IsHead, StageIs};
+ghost use Rattle.attempt.specs.Rests.{slice_words, DecidedIs, IsHead, LeadsTo};
 ghost use Rattle.attempt.specs.Results.{outcome_of};
 ghost use Rattle.attempt.specs.Sends.{SendsTo};
 ghost use Rattle.attempt.specs.Slices.{end_place, got_rest};
@@ -65,9 +65,7 @@ impl VpState {
     pub fn given(&self, under: &mut Under, length: u8)
         requires head { IsHead (origin_of self.now) under.old }
         requires all { length ≡ slice_words (origin_of self.now) under.old }
-        ensures rest { rest_of (origin_of self.now) under.new ≡ by_input (origin_of self.now) (row_for under.old.head.call).code (header_of under.old) (take length under.old.slice) }
-        ensures is { StageIs (origin_of self.now) under.new }
-        ensures op { under.new.op ≡ under.old.op }
+        ensures { LeadsTo (origin_of self.now) under.old under.new (by_input (origin_of self.now) (row_for under.old.head.call).code (header_of under.old) (take length under.old.slice)) }
     {
         match under.head.call {
             Call::FlushVirtualAddressSpace | Call::FlushVirtualAddressList => {
@@ -87,9 +85,7 @@ impl VpState {
     fn setting_all(&self, under: &mut Under, length: u8)
         requires below { start_of (origin_of self.now) < count_of (origin_of self.now) }
         requires all { length ≡ words_between 32 (start_of (origin_of self.now)) (past_of (origin_of self.now)) }
-        ensures rest { rest_of (origin_of self.now) under.new ≡ sets_by (origin_of self.now) (take 2 under.old.header) (take length under.old.slice) (header_refusal (origin_of self.now) (take 2 under.old.header)) }
-        ensures is { StageIs (origin_of self.now) under.new }
-        ensures op { under.new.op ≡ under.old.op }
+        ensures { LeadsTo (origin_of self.now) under.old under.new (sets_by (origin_of self.now) (take 2 under.old.header) (take length under.old.slice) (header_refusal (origin_of self.now) (take 2 under.old.header))) }
     {
         let _ = length;
         let (start, count) = self.elements();
@@ -115,9 +111,7 @@ impl VpState {
         requires head { IsHead (origin_of self.now) under.old }
         requires call { under.old.head.call ≡ Call.GetVpRegisters }
         requires all { length ≡ words_between 4 (start_of (origin_of self.now)) (past_of (origin_of self.now)) }
-        ensures rest { rest_of (origin_of self.now) under.new ≡ gets_by (origin_of self.now) (take 2 under.old.header) (take length under.old.slice) (header_refusal (origin_of self.now) (take 2 under.old.header)) }
-        ensures is { StageIs (origin_of self.now) under.new }
-        ensures op { under.new.op ≡ under.old.op }
+        ensures { LeadsTo (origin_of self.now) under.old under.new (gets_by (origin_of self.now) (take 2 under.old.header) (take length under.old.slice) (header_refusal (origin_of self.now) (take 2 under.old.header))) }
     {
         let _ = length;
         let Some(site) = under.head.output else {
@@ -155,9 +149,7 @@ impl VpState {
     fn getting_out(&self, under: &mut Under, output: Output)
         requires next { output.frame.next ≤ output.frame.count }
         requires room { output.at + 2 * (output.frame.count - output.frame.next) ≤ 512 }
-        ensures rest { rest_of (origin_of self.now) under.new ≡ got_rest (origin_of self.now) output.target output.frame under.old.slice (output.site.address / 4096) output.at }
-        ensures is { StageIs (origin_of self.now) under.new }
-        ensures op { under.new.op ≡ under.old.op }
+        ensures { LeadsTo (origin_of self.now) under.old under.new (got_rest (origin_of self.now) output.target output.frame under.old.slice (output.site.address / 4096) output.at) }
     {
         let Output {
             target,
@@ -253,9 +245,7 @@ impl VpState {
     /// The first stage of a call whose input stands in registers.
     pub fn interrupting(&self, under: &mut Under)
         requires few { self.now.limits.vps ≤ 8 }
-        ensures rest { rest_of (origin_of self.now) under.new ≡ interrupts (origin_of self.now) (take 2 under.old.header) }
-        ensures is { StageIs (origin_of self.now) under.new }
-        ensures op { under.new.op ≡ under.old.op }
+        ensures { LeadsTo (origin_of self.now) under.old under.new (interrupts (origin_of self.now) (take 2 under.old.header)) }
     {
         match self.judged(&front_of(&under.header)) {
             Sends::Post(sending) => under.stage = Stage::Send { sending },
@@ -266,9 +256,7 @@ impl VpState {
     /// The stage of a call that has read its input in memory.
     pub fn interrupting_inside(&self, under: &mut Under)
         requires few { self.now.limits.vps ≤ 8 }
-        ensures rest { rest_of (origin_of self.now) under.new ≡ Asks Leaving (λ _. interrupts (origin_of self.now) (take 2 under.old.header)) }
-        ensures is { StageIs (origin_of self.now) under.new }
-        ensures op { under.new.op ≡ under.old.op }
+        ensures { LeadsTo (origin_of self.now) under.old under.new (Asks Leaving (λ _. interrupts (origin_of self.now) (take 2 under.old.header))) }
     {
         match self.judged(&front_of(&under.header)) {
             Sends::Post(sending) => under.stage = Stage::Quit { sending },
@@ -279,9 +267,7 @@ impl VpState {
     /// A processor was posted to.
     pub fn sent(&self, under: &mut Under, sending: Sending)
         requires { SendIs (origin_of self.now) sending }
-        ensures rest { rest_of (origin_of self.now) under.new ≡ sends_from (origin_of self.now) sending.interrupt (sending.next + 1) sending.past }
-        ensures is { StageIs (origin_of self.now) under.new }
-        ensures op { under.new.op ≡ under.old.op }
+        ensures { LeadsTo (origin_of self.now) under.old under.new (sends_from (origin_of self.now) sending.interrupt (sending.next + 1) sending.past) }
     {
         match sending_on(sending.interrupt, sending.next + 1, sending.past) {
             Sends::Post(sending) => under.stage = Stage::Send { sending },

@@ -10,7 +10,7 @@ ghost use Rattle.vsm_core.specs.Tree.{Tree, after};
 ghost use Rattle.attempt.specs.Asked.{word_step};
 ghost use Rattle.attempt.specs.Calls.{header_of, header_words as header_words_lem};
 ghost use Rattle.attempt.specs.Nexts.{IsNext};
-ghost use Rattle.attempt.specs.Rests.{rest_of, StageIs, reads_rest, slice_words, words_rest, IsHead, ReadsIs};
+ghost use Rattle.attempt.specs.Rests.{StageIs, reads_rest, slice_words, words_rest, IsHead, ReadsIs, LeadsTo};
 ghost use Rattle.attempt.specs.Views.{origin_of};
 
 use crate::given::answered;
@@ -42,9 +42,7 @@ impl VpState {
         requires page { input_address self.now.state / 4096 < 2 ^ 32 }
         requires output { has_output (row_for call) ≡ true → output_address self.now.state / 4096 < 2 ^ 32 }
         requires room { has_output (row_for call) ≡ true → output_address self.now.state % 4096 / 8 + 2 * count_of (origin_of self.now) ≤ 512 }
-        ensures rest { rest_of (origin_of self.now) under.new ≡ by_memory (origin_of self.now) (row_for call) (input_address self.now.state) }
-        ensures is { StageIs (origin_of self.now) under.new }
-        ensures op { under.new.op ≡ under.old.op }
+        ensures { LeadsTo (origin_of self.now) under.old under.new (by_memory (origin_of self.now) (row_for call) (input_address self.now.state)) }
     {
         let site = Site::at(word_of(&self.bank, &self.levels, Name::Rdx));
         let output = output_of(call, word_of(&self.bank, &self.levels, Name::R8));
@@ -66,9 +64,7 @@ impl VpState {
     fn fast(&self, under: &mut Under, call: Call)
         requires few { self.now.limits.vps ≤ 8 }
         requires may_be_fast { (row_for call).may_be_fast ≡ true }
-        ensures rest { rest_of (origin_of self.now) under.new ≡ by_registers (origin_of self.now) (row_for call).code (fast_words self.now.state) }
-        ensures is { StageIs (origin_of self.now) under.new }
-        ensures op { under.new.op ≡ under.old.op }
+        ensures { LeadsTo (origin_of self.now) under.old under.new (by_registers (origin_of self.now) (row_for call).code (fast_words self.now.state)) }
     {
         self.put_fast(&mut under.header);
         match call {
@@ -85,9 +81,7 @@ impl VpState {
     /// The first stage of a hypercall: it is made at privilege level 0, and what refuses it at once refuses it here.
     pub fn hypercalling(&self, under: &mut Under)
         requires { self.now.limits.vps ≤ 8 }
-        ensures rest { rest_of (origin_of self.now) under.new ≡ hypercall_tree (origin_of self.now) }
-        ensures is { StageIs (origin_of self.now) under.new }
-        ensures op { under.new.op ≡ under.old.op }
+        ensures { LeadsTo (origin_of self.now) under.old under.new (hypercall_tree (origin_of self.now)) }
     {
         if privilege_of(&self.bank, &self.levels) != 0 {
             under.end(Decided::Fault(GuestFault::Undefined));
@@ -213,9 +207,7 @@ impl VpState {
     /// The words of an input come next.
     pub fn words(&self, under: &mut Under)
         requires { IsHead (origin_of self.now) under.old }
-        ensures rest { rest_of (origin_of self.now) under.new ≡ words_rest (origin_of self.now) under.old }
-        ensures is { StageIs (origin_of self.now) under.new }
-        ensures op { under.new.op ≡ under.old.op }
+        ensures { LeadsTo (origin_of self.now) under.old under.new (words_rest (origin_of self.now) under.old) }
     {
         let site = under.head.site;
         let reads = Reads {
@@ -231,9 +223,7 @@ impl VpState {
     pub fn header_read(&self, under: &mut Under, reads: Reads)
         requires head { IsHead (origin_of self.now) under.old }
         requires reads { ReadsIs reads (header_words_lem under.old.head.call) }
-        ensures rest { rest_of (origin_of self.now) under.new ≡ reads_rest reads under.old.header (reads_slice (origin_of self.now) (row_for under.old.head.call) under.old.head.site.address) }
-        ensures is { StageIs (origin_of self.now) under.new }
-        ensures op { under.new.op ≡ under.old.op }
+        ensures { LeadsTo (origin_of self.now) under.old under.new (reads_rest reads under.old.header (reads_slice (origin_of self.now) (row_for under.old.head.call) under.old.head.site.address)) }
     {
         if reads.left > 0 {
             under.stage = Stage::Header { reads };
@@ -245,9 +235,7 @@ impl VpState {
     /// The header is read.
     fn sliced(&self, under: &mut Under)
         requires { IsHead (origin_of self.now) under.old }
-        ensures rest { rest_of (origin_of self.now) under.new ≡ reads_slice (origin_of self.now) (row_for under.old.head.call) under.old.head.site.address (header_of under.old) }
-        ensures is { StageIs (origin_of self.now) under.new }
-        ensures op { under.new.op ≡ under.old.op }
+        ensures { LeadsTo (origin_of self.now) under.old under.new (reads_slice (origin_of self.now) (row_for under.old.head.call) under.old.head.site.address (header_of under.old)) }
     {
         let (start, count) = self.elements();
         let call = under.head.call;
@@ -266,9 +254,7 @@ impl VpState {
     pub fn slice_read(&self, under: &mut Under, reads: Reads)
         requires head { IsHead (origin_of self.now) under.old }
         requires reads { ReadsIs reads (slice_words (origin_of self.now) under.old) }
-        ensures rest { rest_of (origin_of self.now) under.new ≡ reads_rest reads under.old.slice (by_input (origin_of self.now) (row_for under.old.head.call).code (header_of under.old)) }
-        ensures is { StageIs (origin_of self.now) under.new }
-        ensures op { under.new.op ≡ under.old.op }
+        ensures { LeadsTo (origin_of self.now) under.old under.new (reads_rest reads under.old.slice (by_input (origin_of self.now) (row_for under.old.head.call).code (header_of under.old))) }
     {
         if reads.left > 0 {
             under.stage = Stage::Slice { reads };

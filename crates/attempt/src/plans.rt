@@ -7,7 +7,7 @@ ghost use Rattle.vsm_core.specs.Outcomes.{note_of as note_of_lem};
 ghost use Rattle.vsm_core.specs.declared.operation.Op.{Op};
 ghost use Rattle.vtl_switch.specs.Answers.{number_of};
 ghost use Rattle.attempt.specs.Plans.{planned, IsPopped, PlanIs};
-ghost use Rattle.attempt.specs.Rests.{by_word, posts, rest_of, told_of, with_refusal, DecidedIs, MatterIs, StageIs};
+ghost use Rattle.attempt.specs.Rests.{by_word, posts, rest_of, told_of, with_refusal, DecidedIs, MatterIs, StageIs, LeadsTo};
 ghost use Rattle.attempt.specs.Results.{done_by, hit_note, outcome_of, refusal_of};
 ghost use Rattle.attempt.specs.Unders.{only_told};
 ghost use Rattle.attempt.specs.Views.{origin_of};
@@ -237,9 +237,7 @@ impl VpState {
 
     /// An access was denied.
     pub fn refused(&self, under: &mut Under, refusal: Refusal)
-        ensures rest { rest_of (origin_of self.now) under.new ≡ refused_lem (origin_of self.now) refusal.gva (refusal_of refusal) (done_by (origin_of self.now) (with_refusal under.old refusal)) }
-        ensures is { StageIs (origin_of self.now) under.new }
-        ensures op { under.new.op ≡ under.old.op }
+        ensures { LeadsTo (origin_of self.now) under.old under.new (refused_lem (origin_of self.now) refusal.gva (refusal_of refusal) (done_by (origin_of self.now) (with_refusal under.old refusal))) }
     {
         under.refusal = refusal;
         if !self.may_enter() {
@@ -271,9 +269,7 @@ impl VpState {
     /// The first word of the message slot was read.
     pub fn found(&self, under: &mut Under, matter: Matter, word: u64)
         requires { MatterIs (origin_of self.now) matter }
-        ensures rest { rest_of (origin_of self.now) under.new ≡ by_word (origin_of self.now) under.old matter word }
-        ensures is { StageIs (origin_of self.now) under.new }
-        ensures op { under.new.op ≡ under.old.op }
+        ensures { LeadsTo (origin_of self.now) under.old under.new (by_word (origin_of self.now) under.old matter word) }
     {
         match matter {
             Matter::Denial => {

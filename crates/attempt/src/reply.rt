@@ -6,7 +6,7 @@ ghost use Rattle.vsm_core.specs.RegisterCalls.{slice_outcome, count_of, value_wo
 ghost use Rattle.vsm_core.specs.Reps.{replied_end};
 ghost use Rattle.vsm_core.specs.Tree.{Ends};
 ghost use Rattle.attempt.specs.Calls.{request_for, AskedIs, by_answer, looked_at};
-ghost use Rattle.attempt.specs.Rests.{rest_of, StageIs};
+ghost use Rattle.attempt.specs.Rests.{rest_of, StageIs, LeadsTo};
 ghost use Rattle.attempt.specs.Views.{origin_of};
 
 use arrayvec::ArrayVec;
@@ -76,9 +76,7 @@ impl VpState {
     /// A slice of pages is served: the call is refused at an element, goes on at one, or is complete.
     fn slice_served(&self, under: &mut Under, reply: &Reply)
         requires { reply.now.done < 4096 }
-        ensures rest { rest_of (origin_of self.now) under.new ≡ Ends (slice_outcome (origin_of self.now) self.now.state [] (replied_end reply.now.status reply.now.done (count_of (origin_of self.now)))) }
-        ensures is { StageIs (origin_of self.now) under.new }
-        ensures op { under.new.op ≡ under.old.op }
+        ensures { LeadsTo (origin_of self.now) under.old under.new (Ends (slice_outcome (origin_of self.now) self.now.state [] (replied_end reply.now.status reply.now.done (count_of (origin_of self.now))))) }
     {
         let (_, count) = self.elements();
         if reply.status == HvStatus::SUCCESS && reply.done < count {
@@ -91,9 +89,7 @@ impl VpState {
     /// The call is served: where it enables a level, the reply has that level's context.
     fn served(&self, under: &mut Under, reply: &Reply)
         requires { reply.now.done < 4096 }
-        ensures rest { rest_of (origin_of self.now) under.new ≡ Ends (replied (origin_of self.now) reply.now) }
-        ensures is { StageIs (origin_of self.now) under.new }
-        ensures op { under.new.op ≡ under.old.op }
+        ensures { LeadsTo (origin_of self.now) under.old under.new (Ends (replied (origin_of self.now) reply.now)) }
     {
         let status = reply.status;
         let done = reply.done;
@@ -111,9 +107,7 @@ impl VpState {
     fn put_value(&self, under: &mut Under, at: (Site, u16), reply: &Reply)
         requires done { reply.now.done < 4096 }
         requires room { at.1 + 2 ≤ 512 }
-        ensures rest { rest_of (origin_of self.now) under.new ≡ looked_at (origin_of self.now) at.0 at.1 reply.now }
-        ensures is { StageIs (origin_of self.now) under.new }
-        ensures op { under.new.op ≡ under.old.op }
+        ensures { LeadsTo (origin_of self.now) under.old under.new (looked_at (origin_of self.now) at.0 at.1 reply.now) }
     {
         let (site, at) = at;
         put_pair(&mut under.output, reply.value);
