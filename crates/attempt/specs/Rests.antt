@@ -41,7 +41,8 @@ made_rest from u = asks_all (planned from.number u.output u.plan) (left_with (re
 -- level 1 is told this, where the message slot has this first word, and entered
 abbrev pub posts : Origin → Note → ℕ → Outcome → Tree Outcome
 posts from note word o =
-    asks_all (posting from (message_page from.pages from.state) note (Some word) ++ told_on (assist_page from.pages from.state) by_interrupt) (left_with o)
+    asks_all (posting from (message_page from.pages from.state) note (Some word) ++ told_on
+        (assist_page from.pages from.state) by_interrupt) (left_with o)
 
 -- what level 1 is told of a register that is written with a value, or read
 abbrev pub told_of : Origin → Name → Option ℕ → Note
@@ -54,14 +55,16 @@ with_refusal u refusal = record u { refusal = refusal }
 
 -- the first word of the message slot is read
 abbrev pub by_word : Origin → Under → Matter → ℕ → Tree Outcome
-by_word from u Denial word = tells from (refusal_of u.refusal) (note_of from u.refusal.gva (refusal_of u.refusal)) (done_by from u) (Some word)
+by_word from u Denial word = tells from (refusal_of u.refusal) (note_of from u.refusal.gva (refusal_of u.refusal))
+    (done_by from u) (Some word)
 by_word from u Hit word = hit_tells from (hit_note from u.op) (Some word)
 by_word from u Ending word = sends from word
 
 -- the mask of the output's page decides at level 0, where there is an output
 abbrev pub output_masked : Origin → Option Site → (generation : ℕ) → Tree Outcome → Tree Outcome
 output_masked from None generation rest = rest
-output_masked from (Some site) generation rest = behind_page_mask from.state.active from Write site.address generation rest
+output_masked from (Some site) generation rest =
+    behind_page_mask from.state.active from Write site.address generation rest
 
 abbrev pub words_rest : Origin → Under → Tree Outcome
 words_rest from u = reads_input from (row_for u.head.call) u.head.site.address
@@ -82,7 +85,8 @@ behind_rest from u behinds.Make generation = made_rest from u
 -- what comes where a page's mask binds level 0
 abbrev pub gate_rest : Origin → Under → Gate → Tree Outcome
 gate_rest from u gate =
-    behind_page_mask from.state.active from gate.access gate.site.address gate.generation (behind_rest from u gate.behind gate.generation)
+    behind_page_mask from.state.active from gate.access gate.site.address gate.generation
+        (behind_rest from u gate.behind gate.generation)
 
 -- what comes once the generation is checked
 abbrev pub inner_rest : Origin → Under → Inner → (generation : ℕ) → Tree Outcome
@@ -90,7 +94,8 @@ inner_rest from u (inners.Look page matter) generation = Asks (Reading page.0 0)
 inner_rest from u inners.Make generation = made_rest from u
 inner_rest from u (inners.Restore page) generation = Asks (Reading page.0 rax_index) (by_rax from page.0)
 inner_rest from u inners.Input generation =
-    behind_page_mask from.state.active from Read u.head.site.address generation (behind_rest from u behinds.Input generation)
+    behind_page_mask from.state.active from Read u.head.site.address generation
+        (behind_rest from u behinds.Input generation)
 inner_rest from u (inners.Output site) generation =
     behind_page_mask from.state.active from Write site.address generation (behind_rest from u behinds.Make generation)
 
@@ -109,11 +114,14 @@ stage_rest from u Access = then_ (path_rest u.path) (leaves from u.path.aim.gva.
 stage_rest from u (Enter inner) = in_access_from (inner_rest from u inner)
 stage_rest from u (Check inner) = Asks Checking (inner_rest from u inner)
 stage_rest from u (Mask gate) =
-    Asks (Masking (gate.site.address / 4096)) (by_page_mask from gate.access gate.site.address gate.generation (behind_rest from u gate.behind gate.generation))
+    Asks (Masking (gate.site.address / 4096))
+        (by_page_mask from gate.access gate.site.address gate.generation
+        (behind_rest from u gate.behind gate.generation))
 stage_rest from u (Look page matter) = Asks (Reading page.0 0) (by_word from u matter)
 stage_rest from u (Rax page) = Asks (Reading page.0 rax_index) (by_rax from page.0)
 stage_rest from u (Rcx page rax) = Asks (Reading page.0 rcx_index) (by_rcx from rax)
-stage_rest from u (Header reads) = reads_rest reads u.header (reads_slice from (row_for u.head.call) u.head.site.address)
+stage_rest from u (Header reads) = reads_rest reads u.header
+    (reads_slice from (row_for u.head.call) u.head.site.address)
 stage_rest from u (Slice reads) = reads_rest reads u.slice (by_input from (row_for u.head.call).code (header_of u))
 stage_rest from u Make = made_rest from u
 stage_rest from u (Take count) = takes (drop count vector_words) (take count u.taken) (polled from)

@@ -64,7 +64,8 @@ impl VpState {
 
     /// What an operation's access is for. An address at which something is executed needn't be a multiple of 8.
     fn aim(&self, access: Access, gva: Gva, value: u64) -> Aim
-        ensures { goal_of result ≡ goal_of_lem self.now.limits.pages self.now.state access (is_aligned access) gva.0 value }
+        ensures { goal_of result ≡ goal_of_lem self.now.limits.pages self.now.state access
+            (is_aligned access) gva.0 value }
     {
         let (need, aligned) = match access {
             Access::Read => (1, true),
@@ -87,7 +88,8 @@ impl VpState {
 
     /// The first stage of an operation that makes one access.
     fn accessing(&self, under: &mut Under, access: Access, gva: Gva, value: u64)
-        ensures { LeadsTo (origin_of self.now) under.old under.new (reaching (origin_of self.now) under.old.op access gva.0 value) }
+        ensures { LeadsTo (origin_of self.now) under.old under.new
+            (reaching (origin_of self.now) under.old.op access gva.0 value) }
     {
         let aim = self.aim(access, gva, value);
         match may_start(&aim) {
@@ -168,7 +170,8 @@ impl VpState {
     /// touches words.
     fn intercepting(&self, under: &mut Under)
         requires { may_enter_lem self.now.state ≡ true }
-        ensures { LeadsTo (origin_of self.now) under.old under.new (intercepted (origin_of self.now) (hit_note (origin_of self.now) under.old.op)) }
+        ensures { LeadsTo (origin_of self.now) under.old under.new
+            (intercepted (origin_of self.now) (hit_note (origin_of self.now) under.old.op)) }
     {
         under.end(Decided::Hit(None));
         if let Some(page) = self.message_page() {
@@ -286,7 +289,8 @@ impl VpState {
     /// A poll has taken so many words.
     pub fn taken(&self, under: &mut Under, count: u8)
         requires { count ≤ 8 }
-        ensures { LeadsTo (origin_of self.now) under.old under.new (takes (drop count vector_words) (take count under.old.taken) (polled_lem (origin_of self.now))) }
+        ensures { LeadsTo (origin_of self.now) under.old under.new
+            (takes (drop count vector_words) (take count under.old.taken) (polled_lem (origin_of self.now))) }
     {
         if count < WORDS {
             under.stage = Stage::Take { count };

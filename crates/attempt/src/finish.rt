@@ -32,7 +32,8 @@ use vtl_switch::{call, give_back, interrupt_entry};
 
 /// What was denied, and where its note went.
 fn denial(refusal: &Refusal, posted: Posted) -> Denial
-    ensures { result ≡ record { page = refusal.now.page; mask = refusal.now.mask; generation = refusal.now.generation; access = refusal.now.access; posted = posted } }
+    ensures { result ≡ record { page = refusal.now.page; mask = refusal.now.mask; generation =
+        refusal.now.generation; access = refusal.now.access; posted = posted } }
 {
     Denial {
         page: refusal.page,
@@ -104,7 +105,8 @@ impl VpState {
     /// An access was denied: level 1 is told and entered, where it may be. Else the processor is held.
     fn deny(&mut self, refusal: &Refusal, slot: Option<u64>) -> What
         requires { 0 < self.old.room }
-        ensures { (does : List Cached) → Comes self.old self.new result (denied_or_held (origin_of self.old) refusal.now does slot) }
+        ensures { (does : List Cached) → Comes self.old self.new result
+            (denied_or_held (origin_of self.old) refusal.now does slot) }
     {
         let note = self.note_of(refusal);
         match interrupt_entry(&mut self.bank, &mut self.levels, self.limits.pages) {
@@ -223,7 +225,8 @@ impl VpState {
 
     /// Level 0 calls level 1.
     fn call(&mut self) -> What
-        ensures { Comes self.old self.new result (switched (may_call_lem self.old.state) (origin_of self.old) (called self.old.state)) }
+        ensures { Comes self.old self.new result
+            (switched (may_call_lem self.old.state) (origin_of self.old) (called self.old.state)) }
     {
         match call(&mut self.bank, &mut self.levels, self.limits.pages) {
             Ok(_) => What::Plain,
@@ -233,7 +236,8 @@ impl VpState {
 
     /// Level 1 returns to level 0.
     fn give_back(&mut self, pair: Option<(u64, u64)>) -> What
-        ensures { Comes self.old self.new result (switched (may_return_lem self.old.state) (origin_of self.old) (returned self.old.state pair)) }
+        ensures { Comes self.old self.new result
+            (switched (may_return_lem self.old.state) (origin_of self.old) (returned self.old.state pair)) }
     {
         match give_back(&mut self.bank, &mut self.levels, pair) {
             Ok(()) => What::Plain,
@@ -243,7 +247,8 @@ impl VpState {
 
     /// A poll has taken these words.
     fn poll(&mut self, found: &[u64; 8]) -> What
-        ensures { Comes self.old self.new result (polled_outcome self.old.state (with_taken self.old.controllers found.now)) }
+        ensures { Comes self.old self.new result
+            (polled_outcome self.old.state (with_taken self.old.controllers found.now)) }
     {
         let wanted = self.is_wanted(found);
         self.controllers.zero.request_all(&lower(found));
@@ -322,7 +327,9 @@ impl VpState {
 
     /// A call has enabled a level, whose context these words begin with, and has its result.
     pub fn enable(&mut self, words: &[u64; 32], level: Vtl, value: u64) -> What
-        ensures { Comes self.old self.new result (reply_outcome (origin_of self.old) (with_context self.old.state (Some (level, take 28 words.now))) value) }
+        ensures { Comes self.old self.new result
+            (reply_outcome (origin_of self.old) (with_context self.old.state (Some (level, take 28 words.now)))
+            value) }
     {
         self.give_context(level, &front_of(words));
         self.reply(value)
@@ -331,7 +338,8 @@ impl VpState {
     /// A call goes on at this element: the register that has its input value, which was this, says so.
     fn go_on_at(&mut self, value: u64, next: u16) -> What
         ensures what { result ≡ What.Part next }
-        ensures state { self.new ≡ record self.old { state = put_legal_lem self.old.state Name.Rcx (with_start_lem value next) } }
+        ensures state { self.new ≡ record self.old
+            { state = put_legal_lem self.old.state Name.Rcx (with_start_lem value next) } }
     {
         let value = with_start(value, next);
         self.put_legal(Name::Rcx, u128::from(value));
@@ -349,7 +357,9 @@ impl VpState {
     /// The elements of a slice set registers of a level, up to the first that is refused.
     pub fn set_registers(&mut self, target: Vtl, words: &[u64; 32]) -> What
         requires { start_of (origin_of self.old) ≤ count_of (origin_of self.old) }
-        ensures { Comes self.old self.new result (set_outcome_of (origin_of self.old) target (frame_of (count_of (origin_of self.old)) (start_of (origin_of self.old))) words.now) }
+        ensures { Comes self.old self.new result
+            (set_outcome_of (origin_of self.old) target
+            (frame_of (count_of (origin_of self.old)) (start_of (origin_of self.old))) words.now) }
     {
         let value = word_of(&self.bank, &self.levels, Name::Rcx);
         let (start, count) = self.elements();

@@ -42,7 +42,8 @@ struct Output {
 /// counted.
 fn decided_by(frame: &RepFrame, end: SliceEnd) -> Decided
     requires { end_place (end_from end) ≡ frame.now.next }
-    ensures outcome { (from : Origin) (under : Under) → outcome_of from under result ≡ slice_outcome from from.state [] (end_from end) }
+    ensures outcome { (from : Origin) (under : Under)
+        → outcome_of from under result ≡ slice_outcome from from.state [] (end_from end) }
     ensures is { (from : Origin) (under : Under) → DecidedIs from under result }
 {
     match end {
@@ -65,7 +66,9 @@ impl VpState {
     pub fn given(&self, under: &mut Under, length: u8)
         requires head { IsHead (origin_of self.now) under.old }
         requires all { length ≡ slice_words (origin_of self.now) under.old }
-        ensures { LeadsTo (origin_of self.now) under.old under.new (by_input (origin_of self.now) (row_for under.old.head.call).code (header_of under.old) (take length under.old.slice)) }
+        ensures { LeadsTo (origin_of self.now) under.old under.new
+            (by_input (origin_of self.now) (row_for under.old.head.call).code (header_of under.old)
+            (take length under.old.slice)) }
     {
         match under.head.call {
             Call::FlushVirtualAddressSpace | Call::FlushVirtualAddressList => {
@@ -85,7 +88,9 @@ impl VpState {
     fn setting_all(&self, under: &mut Under, length: u8)
         requires below { start_of (origin_of self.now) < count_of (origin_of self.now) }
         requires all { length ≡ words_between 32 (start_of (origin_of self.now)) (past_of (origin_of self.now)) }
-        ensures { LeadsTo (origin_of self.now) under.old under.new (sets_by (origin_of self.now) (take 2 under.old.header) (take length under.old.slice) (header_refusal (origin_of self.now) (take 2 under.old.header))) }
+        ensures { LeadsTo (origin_of self.now) under.old under.new
+            (sets_by (origin_of self.now) (take 2 under.old.header) (take length under.old.slice)
+            (header_refusal (origin_of self.now) (take 2 under.old.header))) }
     {
         let _ = length;
         let (start, count) = self.elements();
@@ -111,7 +116,9 @@ impl VpState {
         requires head { IsHead (origin_of self.now) under.old }
         requires call { under.old.head.call ≡ Call.GetVpRegisters }
         requires all { length ≡ words_between 4 (start_of (origin_of self.now)) (past_of (origin_of self.now)) }
-        ensures { LeadsTo (origin_of self.now) under.old under.new (gets_by (origin_of self.now) (take 2 under.old.header) (take length under.old.slice) (header_refusal (origin_of self.now) (take 2 under.old.header))) }
+        ensures { LeadsTo (origin_of self.now) under.old under.new
+            (gets_by (origin_of self.now) (take 2 under.old.header) (take length under.old.slice)
+            (header_refusal (origin_of self.now) (take 2 under.old.header))) }
     {
         let _ = length;
         let Some(site) = under.head.output else {
@@ -149,7 +156,9 @@ impl VpState {
     fn getting_out(&self, under: &mut Under, output: Output)
         requires next { output.frame.next ≤ output.frame.count }
         requires room { output.at + 2 * (output.frame.count - output.frame.next) ≤ 512 }
-        ensures { LeadsTo (origin_of self.now) under.old under.new (got_rest (origin_of self.now) output.target output.frame under.old.slice (output.site.address / 4096) output.at) }
+        ensures { LeadsTo (origin_of self.now) under.old under.new
+            (got_rest (origin_of self.now) output.target output.frame under.old.slice
+            (output.site.address / 4096) output.at) }
     {
         let Output {
             target,
@@ -179,7 +188,8 @@ impl VpState {
 /// The first processor from `first` on and below `past` that has its bit.
 fn next_in(bits: u8, first: u8, past: u8) -> Option<u8>
     requires few { past ≤ 8 }
-    ensures next { MatchOption result (those_in bits first (past - first) ≡ []) (λ p. those_in bits first (past - first) ≡ p ∷ those_in bits (p + 1) (past - (p + 1))) }
+    ensures next { MatchOption result (those_in bits first (past - first) ≡ [])
+        (λ p. those_in bits first (past - first) ≡ p ∷ those_in bits (p + 1) (past - (p + 1))) }
     ensures below { IfSome result (λ p. p < past) }
 {
     for p in first..past {
@@ -245,7 +255,8 @@ impl VpState {
     /// The first stage of a call whose input stands in registers.
     pub fn interrupting(&self, under: &mut Under)
         requires few { self.now.limits.vps ≤ 8 }
-        ensures { LeadsTo (origin_of self.now) under.old under.new (interrupts (origin_of self.now) (take 2 under.old.header)) }
+        ensures { LeadsTo (origin_of self.now) under.old under.new
+            (interrupts (origin_of self.now) (take 2 under.old.header)) }
     {
         match self.judged(&front_of(&under.header)) {
             Sends::Post(sending) => under.stage = Stage::Send { sending },
@@ -256,7 +267,8 @@ impl VpState {
     /// The stage of a call that has read its input in memory.
     pub fn interrupting_inside(&self, under: &mut Under)
         requires few { self.now.limits.vps ≤ 8 }
-        ensures { LeadsTo (origin_of self.now) under.old under.new (Asks Leaving (λ _. interrupts (origin_of self.now) (take 2 under.old.header))) }
+        ensures { LeadsTo (origin_of self.now) under.old under.new
+            (Asks Leaving (λ _. interrupts (origin_of self.now) (take 2 under.old.header))) }
     {
         match self.judged(&front_of(&under.header)) {
             Sends::Post(sending) => under.stage = Stage::Quit { sending },
@@ -267,7 +279,8 @@ impl VpState {
     /// A processor was posted to.
     pub fn sent(&self, under: &mut Under, sending: Sending)
         requires { SendIs (origin_of self.now) sending }
-        ensures { LeadsTo (origin_of self.now) under.old under.new (sends_from (origin_of self.now) sending.interrupt (sending.next + 1) sending.past) }
+        ensures { LeadsTo (origin_of self.now) under.old under.new
+            (sends_from (origin_of self.now) sending.interrupt (sending.next + 1) sending.past) }
     {
         match sending_on(sending.interrupt, sending.next + 1, sending.past) {
             Sends::Post(sending) => under.stage = Stage::Send { sending },

@@ -41,8 +41,10 @@ impl VpState {
         requires below { (row_for call).is_rep ≡ true → start_of (origin_of self.now) < count_of (origin_of self.now) }
         requires page { input_address self.now.state / 4096 < 2 ^ 32 }
         requires output { has_output (row_for call) ≡ true → output_address self.now.state / 4096 < 2 ^ 32 }
-        requires room { has_output (row_for call) ≡ true → output_address self.now.state % 4096 / 8 + 2 * count_of (origin_of self.now) ≤ 512 }
-        ensures { LeadsTo (origin_of self.now) under.old under.new (by_memory (origin_of self.now) (row_for call) (input_address self.now.state)) }
+        requires room { has_output (row_for call) ≡ true
+            → output_address self.now.state % 4096 / 8 + 2 * count_of (origin_of self.now) ≤ 512 }
+        ensures { LeadsTo (origin_of self.now) under.old under.new
+            (by_memory (origin_of self.now) (row_for call) (input_address self.now.state)) }
     {
         let site = Site::at(word_of(&self.bank, &self.levels, Name::Rdx));
         let output = output_of(call, word_of(&self.bank, &self.levels, Name::R8));
@@ -64,7 +66,8 @@ impl VpState {
     fn fast(&self, under: &mut Under, call: Call)
         requires few { self.now.limits.vps ≤ 8 }
         requires may_be_fast { (row_for call).may_be_fast ≡ true }
-        ensures { LeadsTo (origin_of self.now) under.old under.new (by_registers (origin_of self.now) (row_for call).code (fast_words self.now.state)) }
+        ensures { LeadsTo (origin_of self.now) under.old under.new
+            (by_registers (origin_of self.now) (row_for call).code (fast_words self.now.state)) }
     {
         self.put_fast(&mut under.header);
         match call {
@@ -104,7 +107,8 @@ const SLICE: u16 = 8;
 impl Reads {
     /// The next read.
     pub fn next(&self) -> Step
-        ensures { (words : List ℕ) (rest : List ℕ → Tree Outcome) → 0 < self.now.left → IsNext (reads_rest self.now words rest) (word_step result) }
+        ensures { (words : List ℕ) (rest : List ℕ → Tree Outcome) → 0 < self.now.left
+            → IsNext (reads_rest self.now words rest) (word_step result) }
     {
         Step::Read {
             page: self.page,
@@ -116,7 +120,8 @@ impl Reads {
     pub fn read(self, words: &mut [u64; 32], answer: u64) -> Reads
         requires some { 0 < self.left }
         requires is { (total : ℕ) × ReadsIs self total }
-        ensures rest { (rest : List ℕ → Tree Outcome) → reads_rest result words.new rest ≡ after (reads_rest self words.old rest) answer }
+        ensures rest { (rest : List ℕ → Tree Outcome)
+            → reads_rest result words.new rest ≡ after (reads_rest self words.old rest) answer }
         ensures is { (total : ℕ) → ReadsIs self total → ReadsIs result total }
     {
         words[self.done as usize] = answer;
@@ -223,7 +228,9 @@ impl VpState {
     pub fn header_read(&self, under: &mut Under, reads: Reads)
         requires head { IsHead (origin_of self.now) under.old }
         requires reads { ReadsIs reads (header_words_lem under.old.head.call) }
-        ensures { LeadsTo (origin_of self.now) under.old under.new (reads_rest reads under.old.header (reads_slice (origin_of self.now) (row_for under.old.head.call) under.old.head.site.address)) }
+        ensures { LeadsTo (origin_of self.now) under.old under.new
+            (reads_rest reads under.old.header (reads_slice (origin_of self.now)
+            (row_for under.old.head.call) under.old.head.site.address)) }
     {
         if reads.left > 0 {
             under.stage = Stage::Header { reads };
@@ -235,7 +242,9 @@ impl VpState {
     /// The header is read.
     fn sliced(&self, under: &mut Under)
         requires { IsHead (origin_of self.now) under.old }
-        ensures { LeadsTo (origin_of self.now) under.old under.new (reads_slice (origin_of self.now) (row_for under.old.head.call) under.old.head.site.address (header_of under.old)) }
+        ensures { LeadsTo (origin_of self.now) under.old under.new
+            (reads_slice (origin_of self.now) (row_for under.old.head.call) under.old.head.site.address
+            (header_of under.old)) }
     {
         let (start, count) = self.elements();
         let call = under.head.call;
@@ -254,7 +263,9 @@ impl VpState {
     pub fn slice_read(&self, under: &mut Under, reads: Reads)
         requires head { IsHead (origin_of self.now) under.old }
         requires reads { ReadsIs reads (slice_words (origin_of self.now) under.old) }
-        ensures { LeadsTo (origin_of self.now) under.old under.new (reads_rest reads under.old.slice (by_input (origin_of self.now) (row_for under.old.head.call).code (header_of under.old))) }
+        ensures { LeadsTo (origin_of self.now) under.old under.new
+            (reads_rest reads under.old.slice (by_input (origin_of self.now) (row_for under.old.head.call).code
+            (header_of under.old))) }
     {
         if reads.left > 0 {
             under.stage = Stage::Slice { reads };

@@ -45,7 +45,8 @@ pub fn mask_of(answer: u64) -> Mask
 
 fn data_step(aim: &Aim, page: Page, index: u16) -> Step
     requires { index ≡ index_of aim.now.gva.0 }
-    ensures { (mask : Option ℕ) (generation : ℕ) (fill : Option Filling) → IsNext (data_step_lem aim.now.access (goal_of aim.now) page.0 mask generation fill) (word_step result) }
+    ensures { (mask : Option ℕ) (generation : ℕ) (fill : Option Filling)
+        → IsNext (data_step_lem aim.now.access (goal_of aim.now) page.0 mask generation fill) (word_step result) }
 {
     match aim.access {
         Access::Read | Access::Execute => Step::Read { page, index },
@@ -156,8 +157,14 @@ impl Path {
     pub fn at_walk(&mut self, walking: Walking, step: WalkStep) -> Reached
         requires goes_on { GoesOn step walking.walk }
         requires taken { walking.taken ≤ 4 }
-        ensures rest { (now : Walked) (next : List ℕ → Tree Decision) → Tells step now (Stands walking.walk (query_of (goal_of self.old.aim)) (taken_of self.old walking)) → (walking.taken < 4 → next ≡ tables_of self.old walking) → reached_rest self.new result ≡ at_table next (goal_of self.old.aim) (taken_of self.old walking) walking.generation now }
-        ensures is { (now : Walked) → Tells step now (Stands walking.walk (query_of (goal_of self.old.aim)) (taken_of self.old walking)) → IsReached self.new result }
+        ensures rest { (now : Walked) (next : List ℕ → Tree Decision)
+            → Tells step now (Stands walking.walk (query_of (goal_of self.old.aim)) (taken_of self.old walking))
+            → (walking.taken < 4 → next ≡ tables_of self.old walking)
+            → reached_rest self.new result ≡ at_table next (goal_of self.old.aim)
+            (taken_of self.old walking) walking.generation now }
+        ensures is { (now : Walked) → Tells step now
+            (Stands walking.walk (query_of (goal_of self.old.aim)) (taken_of self.old walking))
+            → IsReached self.new result }
         ensures aim { self.new.aim ≡ self.old.aim }
     {
         match step {
@@ -174,7 +181,10 @@ impl Path {
 
     /// A walk that wants its next entry has come to the table of it, in a page that is there.
     fn wants(&mut self, walking: Walking, page: Page, index: u16) -> Reached
-        ensures rest { reached_rest self.new result ≡ behind_mask self.old.aim.level page.0 (by_table_mask (tables_of self.old walking) (taken_of self.old walking) walking.generation page.0 index) (entry_step (tables_of self.old walking) (taken_of self.old walking) page.0 index) }
+        ensures rest { reached_rest self.new result
+            ≡ behind_mask self.old.aim.level page.0
+            (by_table_mask (tables_of self.old walking) (taken_of self.old walking) walking.generation page.0 index)
+            (entry_step (tables_of self.old walking) (taken_of self.old walking) page.0 index) }
         ensures is { IsWalking self.old.aim walking self.old.entries → IsReached self.new result }
         ensures aim { self.new.aim ≡ self.old.aim }
     {
@@ -221,7 +231,9 @@ impl Path {
     /// The mask of a table's page is known.
     pub fn table_masked(&mut self, mask: Mask, walking: Walking, at: (Page, u16)) -> Reached
         requires { IsWalking self.old.aim walking self.old.entries }
-        ensures rest { reached_rest self.new result ≡ by_table_mask (tables_of self.old walking) (taken_of self.old walking) walking.generation at.0.0 at.1 mask }
+        ensures rest { reached_rest self.new result
+            ≡ by_table_mask (tables_of self.old walking)
+            (taken_of self.old walking) walking.generation at.0.0 at.1 mask }
         ensures is { IsReached self.new result }
         ensures aim { self.new.aim ≡ self.old.aim }
     {
@@ -248,7 +260,8 @@ impl Path {
     /// An entry of a table is read.
     pub fn entered(&mut self, walking: Walking, entry: u64) -> Reached
         requires { IsWalking self.old.aim walking self.old.entries }
-        ensures rest { (page index : ℕ) → reached_rest self.new result ≡ after (place_rest self.old (Place.TableRead walking (record { 0 = page }) index)) entry }
+        ensures rest { (page index : ℕ) → reached_rest self.new result
+            ≡ after (place_rest self.old (Place.TableRead walking (record { 0 = page }) index)) entry }
         ensures is { IsReached self.new result }
         ensures aim { self.new.aim ≡ self.old.aim }
     {
@@ -262,7 +275,8 @@ impl Path {
     /// The mask of the data page is known.
     pub fn data_masked(&mut self, mask: Mask) -> Reached
         requires { Leads self.old }
-        ensures rest { reached_rest self.new result ≡ by_mask (goal_of self.old.aim) (translation_of self.old.fill.to) self.old.fill.generation mask }
+        ensures rest { reached_rest self.new result
+            ≡ by_mask (goal_of self.old.aim) (translation_of self.old.fill.to) self.old.fill.generation mask }
         ensures is { IsReached self.new result }
         ensures aim { self.new.aim ≡ self.old.aim }
     {

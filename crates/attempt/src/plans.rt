@@ -104,7 +104,8 @@ pub fn put_words(page: Page, at: u16, count: u8) -> Plan
 pub fn telling(plan: Plan, told: Option<Page>) -> Plan
     requires told { plan.told ≡ None }
     requires is { PlanIs plan }
-    ensures steps { (number : ℕ) (words : List ℕ) → planned number words result ≡ planned number words plan ++ told_on (number_of told) plan.reason }
+    ensures steps { (number : ℕ) (words : List ℕ)
+        → planned number words result ≡ planned number words plan ++ told_on (number_of told) plan.reason }
     ensures is { PlanIs result }
 {
     Plan { told, ..plan }
@@ -135,7 +136,8 @@ fn flagged(words: [u64; 12], more: bool) -> [u64; 12]
 impl VpState {
     /// A message goes to the slot.
     fn message(&self, output: &mut [u64; 16], page: Page, words: &[u64; 12]) -> Plan
-        ensures steps { planned self.now.number output.new result ≡ message_steps self.now.number self.now.state page.0 words.now }
+        ensures steps { planned self.now.number output.new result
+            ≡ message_steps self.now.number self.now.state page.0 words.now }
         ensures told { result.told ≡ None }
         ensures reason { result.reason ≡ 2 }
         ensures is { PlanIs result }
@@ -154,7 +156,9 @@ impl VpState {
 
     /// The steps by which a new note's message is posted, where the message slot has this first word.
     pub fn posting(&self, output: &mut [u64; 16], note: &Note, word: u64) -> Plan
-        ensures steps { planned self.now.number output.new result ≡ posting_lem (origin_of self.now) (message_page_lem self.now.limits.pages self.now.state) note.now (Some word) }
+        ensures steps { planned self.now.number output.new result
+            ≡ posting_lem (origin_of self.now) (message_page_lem self.now.limits.pages self.now.state) note.now
+            (Some word) }
         ensures told { result.told ≡ None }
         ensures reason { result.reason ≡ 2 }
         ensures is { PlanIs result }
@@ -174,7 +178,9 @@ impl VpState {
 
     /// The steps of an end of message, where the message slot has this first word.
     pub fn sending(&self, output: &mut [u64; 16], word: u64) -> Plan
-        ensures steps { planned self.now.number output.new result ≡ sending_lem (origin_of self.now) (message_page_lem self.now.limits.pages self.now.state) self.now.controllers.waiting word }
+        ensures steps { planned self.now.number output.new result
+            ≡ sending_lem (origin_of self.now) (message_page_lem self.now.limits.pages self.now.state)
+            self.now.controllers.waiting word }
         ensures is { PlanIs result }
     {
         let Some(page) = self.message_page() else {
@@ -237,7 +243,9 @@ impl VpState {
 
     /// An access was denied.
     pub fn refused(&self, under: &mut Under, refusal: Refusal)
-        ensures { LeadsTo (origin_of self.now) under.old under.new (refused_lem (origin_of self.now) refusal.gva (refusal_of refusal) (done_by (origin_of self.now) (with_refusal under.old refusal))) }
+        ensures { LeadsTo (origin_of self.now) under.old under.new
+            (refused_lem (origin_of self.now) refusal.gva (refusal_of refusal)
+            (done_by (origin_of self.now) (with_refusal under.old refusal))) }
     {
         under.refusal = refusal;
         if !self.may_enter() {
@@ -258,7 +266,8 @@ impl VpState {
 
     /// The first word of the message slot was read: a note of level 0 is posted.
     fn posted(&self, under: &mut Under, note: &Note, word: u64, decided: Decided)
-        ensures rest { rest_of (origin_of self.now) under.new ≡ posts (origin_of self.now) note.now word (outcome_of (origin_of self.now) under.old decided) }
+        ensures rest { rest_of (origin_of self.now) under.new
+            ≡ posts (origin_of self.now) note.now word (outcome_of (origin_of self.now) under.old decided) }
         ensures is { DecidedIs (origin_of self.now) under.old decided → StageIs (origin_of self.now) under.new }
         ensures op { under.new.op ≡ under.old.op }
     {
@@ -269,7 +278,8 @@ impl VpState {
     /// The first word of the message slot was read.
     pub fn found(&self, under: &mut Under, matter: Matter, word: u64)
         requires { MatterIs (origin_of self.now) matter }
-        ensures { LeadsTo (origin_of self.now) under.old under.new (by_word (origin_of self.now) under.old matter word) }
+        ensures { LeadsTo (origin_of self.now) under.old under.new
+            (by_word (origin_of self.now) under.old matter word) }
     {
         match matter {
             Matter::Denial => {

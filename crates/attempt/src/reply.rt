@@ -76,7 +76,9 @@ impl VpState {
     /// A slice of pages is served: the call is refused at an element, goes on at one, or is complete.
     fn slice_served(&self, under: &mut Under, reply: &Reply)
         requires { reply.now.done < 4096 }
-        ensures { LeadsTo (origin_of self.now) under.old under.new (Ends (slice_outcome (origin_of self.now) self.now.state [] (replied_end reply.now.status reply.now.done (count_of (origin_of self.now))))) }
+        ensures { LeadsTo (origin_of self.now) under.old under.new
+            (Ends (slice_outcome (origin_of self.now) self.now.state []
+            (replied_end reply.now.status reply.now.done (count_of (origin_of self.now))))) }
     {
         let (_, count) = self.elements();
         if reply.status == HvStatus::SUCCESS && reply.done < count {
@@ -107,7 +109,8 @@ impl VpState {
     fn put_value(&self, under: &mut Under, at: (Site, u16), reply: &Reply)
         requires done { reply.now.done < 4096 }
         requires room { at.1 + 2 ≤ 512 }
-        ensures { LeadsTo (origin_of self.now) under.old under.new (looked_at (origin_of self.now) at.0 at.1 reply.now) }
+        ensures { LeadsTo (origin_of self.now) under.old under.new
+            (looked_at (origin_of self.now) at.0 at.1 reply.now) }
     {
         let (site, at) = at;
         put_pair(&mut under.output, reply.value);

@@ -71,7 +71,9 @@ impl VpState {
     /// Where an answer has led an access.
     fn reached(&self, under: &mut Under, reached: Reached)
         requires { IsReached under.old.path reached }
-        ensures { LeadsTo (origin_of self.now) under.old under.new (then_ (reached_rest under.old.path reached) (leaves (origin_of self.now) under.old.path.aim.gva.0 (granted_of self.now.state under.old.op))) }
+        ensures { LeadsTo (origin_of self.now) under.old under.new
+            (then_ (reached_rest under.old.path reached)
+            (leaves (origin_of self.now) under.old.path.aim.gva.0 (granted_of self.now.state under.old.op))) }
     {
         match reached {
             Reached::On => under.stage = Stage::Access,
@@ -84,7 +86,9 @@ impl VpState {
     /// The mask of a hypercall's page is known.
     fn masked(&self, under: &mut Under, gate: Gate, mask: Mask)
         requires { BehindIs (origin_of self.now) under.old gate.behind }
-        ensures { LeadsTo (origin_of self.now) under.old under.new (by_page_mask (origin_of self.now) gate.access gate.site.address gate.generation (behind_rest (origin_of self.now) under.old gate.behind gate.generation) mask) }
+        ensures { LeadsTo (origin_of self.now) under.old under.new
+            (by_page_mask (origin_of self.now) gate.access gate.site.address gate.generation
+            (behind_rest (origin_of self.now) under.old gate.behind gate.generation) mask) }
     {
         if mask.allows(gate.access) {
             self.behind(under, gate.behind, gate.generation);
@@ -105,7 +109,8 @@ impl VpState {
     /// A planned step was made or, where none was left, the leave.
     fn made(&self, under: &mut Under)
         requires { MakeIs (origin_of self.now) under.old }
-        ensures { LeadsTo (origin_of self.now) under.old under.new (after (made_rest (origin_of self.now) under.old) 0) }
+        ensures { LeadsTo (origin_of self.now) under.old under.new
+            (after (made_rest (origin_of self.now) under.old) 0) }
     {
         match under.plan.popped(self.number, &under.output) {
             Some(_) => under.stage = Stage::Make,
@@ -158,7 +163,9 @@ impl VpState {
     /// The mask of the output's page comes next at level 0, where there is an output.
     fn output(&self, under: &mut Under, generation: u64)
         requires { IsHead (origin_of self.now) under.old }
-        ensures { LeadsTo (origin_of self.now) under.old under.new (output_masked (origin_of self.now) under.old.head.output generation (words_rest (origin_of self.now) under.old)) }
+        ensures { LeadsTo (origin_of self.now) under.old under.new
+            (output_masked (origin_of self.now) under.old.head.output generation
+            (words_rest (origin_of self.now) under.old)) }
     {
         let Some(site) = under.head.output else {
             self.words(under);
@@ -181,7 +188,8 @@ impl VpState {
     /// What comes once a mask has allowed it.
     pub fn behind(&self, under: &mut Under, behind: Behind, generation: u64)
         requires { BehindIs (origin_of self.now) under.old behind }
-        ensures { LeadsTo (origin_of self.now) under.old under.new (behind_rest (origin_of self.now) under.old behind generation) }
+        ensures { LeadsTo (origin_of self.now) under.old under.new
+            (behind_rest (origin_of self.now) under.old behind generation) }
     {
         match behind {
             Behind::Input => self.output(under, generation),
@@ -204,7 +212,8 @@ impl VpState {
     /// The generation is checked.
     pub fn opened(&self, under: &mut Under, inner: Inner, generation: u64)
         requires { InnerIs (origin_of self.now) under.old inner }
-        ensures { LeadsTo (origin_of self.now) under.old under.new (inner_rest (origin_of self.now) under.old inner generation) }
+        ensures { LeadsTo (origin_of self.now) under.old under.new
+            (inner_rest (origin_of self.now) under.old inner generation) }
     {
         match inner {
             Inner::Look { page, matter } => under.stage = Stage::Look { page, matter },

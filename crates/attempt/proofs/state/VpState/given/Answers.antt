@@ -13,7 +13,9 @@ returns-in-EnableVpVtl c =
     let from : Origin = origin_of c.args.self.now in
     let old : Under = c.args.under.now in
     record {
-      rest = subst (λ (u : Under). rest_of from u ≡ by_input from (row_for old.head.call).code (header_of old) (take c.args.length old.slice)) (sym c.depart-in-EnableVpVtl.ensures) (rw c.in-EnableVpVtl.is refl);
+      rest = subst (λ (u : Under). rest_of from u
+          ≡ by_input from (row_for old.head.call).code (header_of old) (take c.args.length old.slice))
+          (sym c.depart-in-EnableVpVtl.ensures) (rw c.in-EnableVpVtl.is refl);
       is = search rules;
       op = search rules;
     }
@@ -23,7 +25,9 @@ returns-in-StartVirtualProcessor c =
     let from : Origin = origin_of c.args.self.now in
     let old : Under = c.args.under.now in
     record {
-      rest = subst (λ (u : Under). rest_of from u ≡ by_input from (row_for old.head.call).code (header_of old) (take c.args.length old.slice)) (sym c.depart-in-StartVirtualProcessor.ensures) (rw c.in-StartVirtualProcessor.is refl);
+      rest = subst (λ (u : Under). rest_of from u
+          ≡ by_input from (row_for old.head.call).code (header_of old) (take c.args.length old.slice))
+          (sym c.depart-in-StartVirtualProcessor.ensures) (rw c.in-StartVirtualProcessor.is refl);
       is = search rules;
       op = search rules;
     }
