@@ -39,14 +39,14 @@ pub context-given : (registers : Registers) (levels : LevelsView) (level : Vtl) 
     (result : Result (Unit {0}) HvStatus) (new : State) → is_legal_context words ≡ true
     → context_values context ≡ values_of words
     → (IsErr result ↔ IsTrue (is_enabled levels level))
-        → OnOk result (new ≡ enabled_with (state_of registers levels) level context)
-        → OnErr result (new ≡ state_of registers levels)
+    → OnOk result (new ≡ enabled_with (state_of registers levels) level context)
+    → OnErr result (new ≡ state_of registers levels)
     → new ≡ with_context (state_of registers levels) (Some (level, words))
 context-given registers levels level words context (Ok u) new legal values exact ok err =
     let none : has_level (state_of registers levels) level ≡ false =
-        has-level registers levels level ∙ off (is_enabled levels level) (λ h. ok-no-err (exact.1 h)) in
+    has-level registers levels level ∙ off (is_enabled levels level) (λ h. ok-no-err (exact.1 h)) in
     given-ok (has_level (state_of registers levels) level) (is_legal_context words) _
-        (state_of registers levels) new none legal (ok ∙ ap (enabled_by (state_of registers levels) level) values)
+    (state_of registers levels) new none legal (ok ∙ ap (enabled_by (state_of registers levels) level) values)
 context-given registers levels level words context (Err status) new legal values exact ok err =
     given-err (has_level (state_of registers levels) level) (is_legal_context words) _ (state_of registers levels) new
-        (has-level registers levels level ∙ exact.0 refl) err
+    (has-level registers levels level ∙ exact.0 refl) err

@@ -37,9 +37,9 @@ pub sets-done : (from : Origin) (header slice : List ℕ) (refusal : Option HvSt
     → refusal ≡ None → target ≡ target_level from.state.active header
     → length ≡ words_between 32 (start_of from) (past_of from)
     → write_in from.state.active target (count_of from)
-        (slice_settings (frame_of (count_of from) (start_of from)) slice) ≡ None
-        → left_with (set_outcome_of from target (frame_of (count_of from) (start_of from)) slice)
-        ≡ sets_by from header (take length slice) refusal
+    (slice_settings (frame_of (count_of from) (start_of from)) slice) ≡ None
+    → left_with (set_outcome_of from target (frame_of (count_of from) (start_of from)) slice)
+    ≡ sets_by from header (take length slice) refusal
 sets-done from header slice refusal target length fine level all none =
     let found : List Setting = slice_settings (own_frame from) slice in
     sym (sets-fine from header (take length slice) refusal fine
@@ -56,18 +56,18 @@ gets-fine from header words (Some status) e = cc
 abbrev looks_so : Origin → PartCall → (address place : ℕ) → Tree Outcome
 looks_so from call address place =
     Asks Leaving (λ _. Wants (asked_of from call)
-        (λ (reply : Reply). in_access_from (λ generation. behind_page_mask from.state.active from Write address
-        generation
+    (λ (reply : Reply). in_access_from (λ generation. behind_page_mask from.state.active from Write address
+    generation
     (asks_all (writes (address / 4096) place (value_words reply.value))
-        (left_with (result_outcome from from.state reply.status reply.done))))))
+    (left_with (result_outcome from from.state reply.status reply.done))))))
 
 -- a register of the partition is asked for
 pub gets-asks : (from : Origin) (u : Under) (header slice : List ℕ) (refusal : Option HvStatus) (target : Vtl)
     (length at : ℕ) (register : Register) (site : Site) → refusal ≡ None
     → target ≡ target_level from.state.active header → length ≡ words_between 4 (start_of from) (past_of from)
     → look_in from.state.active target (count_of from)
-        (frame_numbers (frame_of (count_of from) (start_of from)) slice) ≡ Some (look_call register)
-        → site.address ≡ output_address from.state → at ≡ site.address % 4096 / 8 + 2 * start_of from
+    (frame_numbers (frame_of (count_of from) (start_of from)) slice) ≡ Some (look_call register)
+    → site.address ≡ output_address from.state → at ≡ site.address % 4096 / 8 + 2 * start_of from
     → stage_rest from u (Depart (Look register site at)) ≡ gets_by from header (take length slice) refusal
 gets-asks from u header slice refusal target length at register site fine level all look here place =
     let found : List ℕ = frame_numbers (own_frame from) slice in

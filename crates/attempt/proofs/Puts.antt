@@ -51,12 +51,12 @@ pub puts-value : (from : Origin) (u : Under) (site : Site) (at : ℕ) (reply : R
     → in_access_from (inner_rest from u (Output site)) ≡ looked_at from site at reply
 puts-value from u site at reply page steps result =
     let made : made_rest from u ≡ asks_all (writes (site.address / 4096) at (value_words reply.value))
-        (left_with (result_outcome from from.state reply.status reply.done)) =
+    (left_with (result_outcome from from.state reply.status reply.done)) =
     ap (λ s. asks_all s (left_with (result_of from u))) steps
     ∙ ap (λ p. asks_all (writes p at (value_words reply.value)) (left_with (result_of from u))) page
     ∙ ap (λ o. asks_all (writes (site.address / 4096) at (value_words reply.value)) (left_with o)) result in
     ap (λ t. in_access_from (λ generation. behind_page_mask from.state.active from Write site.address generation t))
-        made
+    made
 
 -- no answer to a planned step says anything
 pub asks-same : (steps : List WordStep) (o : Outcome) (x y : ℕ)

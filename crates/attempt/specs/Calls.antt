@@ -42,15 +42,19 @@ part_call from u (Write value) = parts.WriteConfig value
 part_call from u (Look register output at) = look_call register
 
 abbrev pub request_for : Origin → Under → Asked → Request
-request_for from u asked = record { by = record { 0 = from.number }; level = from.state.active; call =
-    part_call from u asked }
+request_for from u asked = record {
+  by = record { 0 = from.number };
+  level = from.state.active;
+  call =
+      part_call from u asked;
+}
 
 -- the value of the partition's register goes to this place in the page of the output, in an access of its own
 abbrev pub looked_at : Origin → Site → (at : ℕ) → Reply → Tree Outcome
 looked_at from site at reply =
     in_access_from (λ generation. behind_page_mask from.state.active from Writes site.address generation
     (asks_all (writes (site.address / 4096) at (value_words reply.value))
-        (left_with (result_outcome from from.state reply.status reply.done))))
+    (left_with (result_outcome from from.state reply.status reply.done))))
 
 -- what is left once the request has its reply
 abbrev pub by_answer : Origin → Asked → Reply → Tree Outcome
@@ -73,7 +77,7 @@ AskedIs from _ = Unit {0}
 abbrev pub sends_from : Origin → Interrupt → (first past : ℕ) → Tree Outcome
 sends_from from i first past =
     asks_all (interrupt_steps i.level i.vector (those_in i.processors first (past - first)))
-        (Ends (result_outcome from from.state statuses.SUCCESS 0))
+    (Ends (result_outcome from from.state statuses.SUCCESS 0))
 
 -- the next processor, and then those behind it
 abbrev pub sends_now : Origin → Sending → Tree Outcome

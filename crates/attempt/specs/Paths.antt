@@ -41,8 +41,14 @@ filled_by p filled = if filled then Some (fill_of p.fill) else None
 
 -- the grant of an access that leads there and has found this value
 abbrev pub grant_of : Kept → ℕ → Grant
-grant_of f value = record { page = record { 0 = f.to.page }; mask = f.mask; generation = f.generation; value =
-    value; hit = false }
+grant_of f value = record {
+  page = record { 0 = f.to.page };
+  mask = f.mask;
+  generation = f.generation;
+  value =
+      value;
+  hit = false;
+}
 
 -- an access of this kind needs an address that is a multiple of 8
 abbrev pub is_aligned : Access → Bool

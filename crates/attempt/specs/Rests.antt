@@ -42,7 +42,7 @@ made_rest from u = asks_all (planned from.number u.output u.plan) (left_with (re
 abbrev pub posts : Origin → Note → ℕ → Outcome → Tree Outcome
 posts from note word o =
     asks_all (posting from (message_page from.pages from.state) note (Some word) ++ told_on
-        (assist_page from.pages from.state) by_interrupt) (left_with o)
+    (assist_page from.pages from.state) by_interrupt) (left_with o)
 
 -- what level 1 is told of a register that is written with a value, or read
 abbrev pub told_of : Origin → Name → Option ℕ → Note
@@ -86,7 +86,7 @@ behind_rest from u behinds.Make generation = made_rest from u
 abbrev pub gate_rest : Origin → Under → Gate → Tree Outcome
 gate_rest from u gate =
     behind_page_mask from.state.active from gate.access gate.site.address gate.generation
-        (behind_rest from u gate.behind gate.generation)
+    (behind_rest from u gate.behind gate.generation)
 
 -- what comes once the generation is checked
 abbrev pub inner_rest : Origin → Under → Inner → (generation : ℕ) → Tree Outcome
@@ -95,7 +95,7 @@ inner_rest from u inners.Make generation = made_rest from u
 inner_rest from u (inners.Restore page) generation = Asks (Reading page.0 rax_index) (by_rax from page.0)
 inner_rest from u inners.Input generation =
     behind_page_mask from.state.active from Read u.head.site.address generation
-        (behind_rest from u behinds.Input generation)
+    (behind_rest from u behinds.Input generation)
 inner_rest from u (inners.Output site) generation =
     behind_page_mask from.state.active from Write site.address generation (behind_rest from u behinds.Make generation)
 
@@ -115,8 +115,8 @@ stage_rest from u (Enter inner) = in_access_from (inner_rest from u inner)
 stage_rest from u (Check inner) = Asks Checking (inner_rest from u inner)
 stage_rest from u (Mask gate) =
     Asks (Masking (gate.site.address / 4096))
-        (by_page_mask from gate.access gate.site.address gate.generation
-        (behind_rest from u gate.behind gate.generation))
+    (by_page_mask from gate.access gate.site.address gate.generation
+    (behind_rest from u gate.behind gate.generation))
 stage_rest from u (Look page matter) = Asks (Reading page.0 0) (by_word from u matter)
 stage_rest from u (Rax page) = Asks (Reading page.0 rax_index) (by_rax from page.0)
 stage_rest from u (Rcx page rax) = Asks (Reading page.0 rcx_index) (by_rcx from rax)

@@ -76,14 +76,14 @@ hit_note from _ = register_note from false names.Rax 0
 abbrev pub hit_or_held : Origin → Op → Option ℕ → Outcome
 hit_or_held from op slot =
     if may_enter from.state then hit_outcome from (hit_note from op) slot else outcome_at from
-        (whats.Hit Held) from.state []
+    (whats.Hit Held) from.state []
 
 -- a slice of a call that sets registers of a level, whose elements these words hold
 abbrev pub set_outcome_of : Origin → Vtl → Frame → List ℕ → Outcome
 set_outcome_of from target frame words =
     slice_outcome from (slice_set from.state.active target frame words from.state)
     (all_emptied target (take (acting (setting_refusals from.state.active target frame words))
-        (slice_settings frame words)))
+    (slice_settings frame words)))
     (end_of frame (setting_refusals from.state.active target frame words))
 
 -- a call has this result, in this state

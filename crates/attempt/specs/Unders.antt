@@ -9,8 +9,16 @@ use Rattle.attempt.specs.declared.under.Under.{Under}
 
 -- no step is planned, but that the assist page is told the reason, where it is on
 abbrev pub only_told : Option Page → ℕ → Plan
-only_told told reason = record { page = record { 0 = 0 }; at = 0; next = 0; count = 0; vector = None; told =
-    told; reason = reason }
+only_told told reason = record {
+  page = record { 0 = 0 };
+  at = 0;
+  next = 0;
+  count = 0;
+  vector = None;
+  told =
+      told;
+  reason = reason;
+}
 
 -- with no step left
 abbrev pub ended : Under → Decided → Under

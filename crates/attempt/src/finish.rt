@@ -32,8 +32,14 @@ use vtl_switch::{call, give_back, interrupt_entry};
 
 /// What was denied, and where its note went.
 fn denial(refusal: &Refusal, posted: Posted) -> Denial
-    ensures { result ≡ record { page = refusal.now.page; mask = refusal.now.mask; generation =
-        refusal.now.generation; access = refusal.now.access; posted = posted } }
+    ensures { result ≡ record {
+      page = refusal.now.page;
+      mask = refusal.now.mask;
+      generation =
+          refusal.now.generation;
+      access = refusal.now.access;
+      posted = posted;
+    } }
 {
     Denial {
         page: refusal.page,

@@ -22,7 +22,9 @@ use crate::plans::put_words;
 use crate::stage::{Asked, Decided, Sending, Site, Stage, Step};
 use crate::state::VpState;
 use crate::under::{Under, front_of};
-use hyper_abi::{Call, Interrupt, ResultValue, interrupt_of, interrupt_refusal, register_refusal, target_level};
+use hyper_abi::{
+    Call, Interrupt, ResultValue, interrupt_of, interrupt_refusal, register_refusal, target_level,
+};
 use rep_frame::{RepFrame, SliceEnd, get_slice, look_in, write_in};
 use vsm_base::{HvStatus, VpIndex, Vtl};
 use vsm_core::PendingWord;

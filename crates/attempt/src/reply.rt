@@ -9,13 +9,12 @@ ghost use Rattle.attempt.specs.Calls.{request_for, AskedIs, by_answer, looked_at
 ghost use Rattle.attempt.specs.Rests.{rest_of, StageIs, LeadsTo};
 ghost use Rattle.attempt.specs.Views.{origin_of};
 
-use arrayvec::ArrayVec;
-use crate::under::front_of;
 use crate::given::answered;
 use crate::plans::put_words;
 use crate::stage::{Asked, Decided, Inner, Site, Stage};
 use crate::state::VpState;
-use crate::under::Under;
+use crate::under::{Under, front_of};
+use arrayvec::ArrayVec;
 use hyper_abi::ResultValue;
 use rep_frame::Look;
 use vsm_base::HvStatus;

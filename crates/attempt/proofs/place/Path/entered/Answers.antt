@@ -24,7 +24,7 @@ tells c q e = rw (more c, e) (c.next-step.ensures.told (query_of (goal_of c.args
 pub returns-clause-rest : goal.returns-clause-rest
 returns-clause-rest c page index =
     rw (← more c) (tables-on (λ t. reached_rest c.at_walk.new.self c.at_walk.result ≡ t) c.args.walking.taken _ _ _
-        c.requires.few (λ next few. c.at_walk.ensures.rest _ next (tells c _ refl) few))
+    c.requires.few (λ next few. c.at_walk.ensures.rest _ next (tells c _ refl) few))
 
 pub returns-clause-is : goal.returns-clause-is
 returns-clause-is c = c.at_walk.ensures.is _ (tells c _ refl)

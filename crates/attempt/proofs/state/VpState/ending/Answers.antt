@@ -12,7 +12,7 @@ returns c =
     let from : Origin = origin_of c.args.self.now in
     let zero : is_zero from.state.active ≡ false = rw (← c.self.view_is, ← c.active.ensures.active, c.in-One.is) refl in
     let none : (length from.controllers.waiting == 0) ≡ false =
-        rw (← c.self.view_is, ← c.waiting.ensures) (sym c.is_empty.ensures ∙ c.if-is_empty.false) in
+    rw (← c.self.view_is, ← c.waiting.ensures) (sym c.is_empty.ensures ∙ c.if-is_empty.false) in
     record {
       rest = begun-look from c.args.under.now c.in-Some.page (is_zero from.state.active)
           (message_page from.pages from.state) from.controllers.waiting zero

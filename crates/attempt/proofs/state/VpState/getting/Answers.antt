@@ -25,27 +25,27 @@ returns-in-Some-look_in c =
     let register = c.in-Some-look_in.register in
     let target : Vtl = c.target_level-target.result in
     let active : c.active-active.result ≡ from.state.active =
-        c.active-active.ensures.active ∙ ap (λ (v : VpView). v.state.active) c.self.view_is in
+    c.active-active.ensures.active ∙ ap (λ (v : VpView). v.state.active) c.self.view_is in
     let fine : header_refusal from header ≡ None =
-        rw (← c.self.view_is, ← c.active-active.ensures.active, ← c.front_of-header.ensures)
-        (sym c.register_refusal.ensures ∙ c.in_default-register_refusal.is) in
+    rw (← c.self.view_is, ← c.active-active.ensures.active, ← c.front_of-header.ensures)
+    (sym c.register_refusal.ensures ∙ c.in_default-register_refusal.is) in
     let level : target ≡ target_level from.state.active header =
-        c.target_level-target.ensures ∙ ap (λ l. target_level l c.front_of-header.result) active
-        ∙ ap (target_level from.state.active) c.front_of-header.ensures in
+    c.target_level-target.ensures ∙ ap (λ l. target_level l c.front_of-header.result) active
+    ∙ ap (target_level from.state.active) c.front_of-header.ensures in
     let told : look_calls (Some register) ≡ look_in c.active-active.result target e.1
-        (slice_numbers (frame_of e.1 e.0) slice) =
-        rw (c.in-Some-look_in.is, c.new-frame.ensures) at c.look_in.ensures in
+    (slice_numbers (frame_of e.1 e.0) slice) =
+    rw (c.in-Some-look_in.is, c.new-frame.ensures) at c.look_in.ensures in
     let look : look_in from.state.active target (count_of from)
-        (slice_numbers (frame_of (count_of from) (start_of from)) slice) ≡ Some (look_call register) =
-        rw (← c.elements-start.ensures.start, ← c.elements-start.ensures.count, ← active) (sym told) in
+    (slice_numbers (frame_of (count_of from) (start_of from)) slice) ≡ Some (look_call register) =
+    rw (← c.elements-start.ensures.start, ← c.elements-start.ensures.count, ← active) (sym told) in
     let put : IfSome c.args.under.now.head.output (λ (s : Site). s.address ≡ output_address from.state) =
-        c.requires.head.output in
+    c.requires.head.output in
     let here : site.address ≡ output_address from.state = rw c.in-Some.is at put in
     record {
       rest = subst (λ (u : Under). rest_of from u
           ≡ gets_by from header (take c.args.length slice) (header_refusal from header)) (sym c.depart.ensures)
-        (gets-asks from c.args.under.now header slice _ target c.args.length _ register site fine level c.requires.all
-            look here (ap (λ s. site.address % 4096 / 8 + 2 * s) c.elements-start.ensures.start));
+          (gets-asks from c.args.under.now header slice _ target c.args.length _ register site fine level c.requires.all
+          look here (ap (λ s. site.address % 4096 / 8 + 2 * s) c.elements-start.ensures.start));
       is = search rules;
       op = search rules;
     }

@@ -12,7 +12,7 @@ pub returns-in-Over : goal.returns-in-Over
 returns-in-Over c =
     let over = rw (c.in-Over.is, c.front_of.ensures) at c.judged.ensures in
     let end : c.leave.new.self ≡ left c.args.under.now (Replied (result_value c.in-Over.status 0)) =
-        c.leave.ensures ∙ ap (left c.args.under.now) c.answered.ensures in
+    c.leave.ensures ∙ ap (left c.args.under.now) c.answered.ensures in
     record {
       rest = ap (rest_of (origin_of c.args.self.now)) end ∙ ap (λ (t : Tree Outcome). Asks Leaving (λ _. t)) (sym over);
       is = search rules;

@@ -9,8 +9,8 @@ pub returns-in-Some : goal.returns-in-Some
 returns-in-Some c =
     let from = c.args.self.now in
     let e : first_failed (interrupt_checks from.limits.vps from.state.active c.args.header.now)
-        ≡ Some c.in-Some.status = rw (← c.self.view_is, ← c.active-caller.ensures.active)
-        (sym c.interrupt_refusal.ensures.result ∙ c.in-Some.is) in
+    ≡ Some c.in-Some.status = rw (← c.self.view_is, ← c.active-caller.ensures.active)
+    (sym c.interrupt_refusal.ensures.result ∙ c.in-Some.is) in
     rw e refl
 
 pub interrupt_of-requires-clause-processors : goal.interrupt_of-requires-clause-processors
@@ -23,9 +23,12 @@ returns-in-None c =
     let i = c.interrupt_of in
     let vps : c.self.inside.limits.vps ≡ from.limits.vps = rw (← c.self.view_is) refl in
     let e : first_failed (interrupt_checks from.limits.vps from.state.active c.args.header.now) ≡ None =
-        rw (← c.self.view_is, ← c.active-caller.ensures.active)
-        (sym c.interrupt_refusal.ensures.result ∙ c.in-None.is) in
+    rw (← c.self.view_is, ← c.active-caller.ensures.active)
+    (sym c.interrupt_refusal.ensures.result ∙ c.in-None.is) in
     let level : i.result.level ≡ interrupted_level from.state.active c.args.header.now =
-        rw (← c.self.view_is, ← c.active-caller.ensures.active) i.ensures.level in
-    rw (e, all-sent (origin_of from) i.result c.args.header.now c.self.inside.limits.vps level i.ensures.vector
-        i.ensures.processors vps) (c.sending_on.ensures (origin_of from) vps)
+    rw (← c.self.view_is, ← c.active-caller.ensures.active) i.ensures.level in
+    rw (
+      e,
+      all-sent (origin_of from) i.result c.args.header.now c.self.inside.limits.vps level i.ensures.vector
+          i.ensures.processors vps,
+    ) (c.sending_on.ensures (origin_of from) vps)

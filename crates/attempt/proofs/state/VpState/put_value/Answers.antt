@@ -22,10 +22,10 @@ returns c =
     let made : Under = c.make.new.self in
     let u : Under = record made { stage = Enter (Output site) } in
     let steps : planned from.number c.make.new.self.output c.make.new.self.plan
-        ≡ writes site.page.0 at (value_words reply.value) =
-        rw c.make.ensures (c.put_words.ensures.steps from.number _ ∙ ap (writes site.page.0 at) c.put_pair.ensures) in
+    ≡ writes site.page.0 at (value_words reply.value) =
+    rw c.make.ensures (c.put_words.ensures.steps from.number _ ∙ ap (writes site.page.0 at) c.put_pair.ensures) in
     let result : outcome_of from u c.make.new.self.decided ≡ result_outcome from from.state reply.status reply.done =
-        rw (c.make.ensures, c.answered-decided.ensures) refl in
+    rw (c.make.ensures, c.answered-decided.ensures) refl in
     record {
       rest = puts-value from u site at reply site.known steps result;
       is = search rules;

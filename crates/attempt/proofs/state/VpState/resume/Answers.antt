@@ -27,10 +27,10 @@ returns-in-Access-clause-rest c =
     let r = c.resume-reached in
     c.reached.ensures.rest
     ∙ ap (λ (aim : Aim). then_ (reached_rest r.new.self r.result)
-        (leaves from aim.gva.0 (granted_of from.state u.op))) r.ensures.aim
+    (leaves from aim.gva.0 (granted_of from.state u.op))) r.ensures.aim
     ∙ ap (λ (t : Tree Decision). then_ t (leaves from path.aim.gva.0 (granted_of from.state u.op))) r.ensures.rest
     ∙ sym (after-then (path_rest path) (leaves from path.aim.gva.0 (granted_of from.state u.op)) c.args.answer
-        (path-asks path))
+    (path-asks path))
     ∙ ap (λ (s : Stage). after (stage_rest from u s) c.args.answer) (sym c.in-Access.is)
 
 pub returns-in-Make-clause-rest : goal.returns-in-Make-clause-rest
@@ -50,6 +50,6 @@ returns-in-Take-clause-rest c =
     let next = next-taken count low in
     c.taken.ensures.rest
     ∙ ap (λ (found : List ℕ). takes (drop (count + 1) vector_words) found (polled from))
-        (take_more_set u.taken count c.args.answer (search rules))
+    (take_more_set u.taken count c.args.answer (search rules))
     ∙ sym (ap (λ words. after (takes words (take count u.taken) (polled from)) c.args.answer) next)
     ∙ ap (λ (s : Stage). after (stage_rest from u s) c.args.answer) (sym c.in-Take.is)

@@ -11,7 +11,7 @@ returns-in-Ok-Restore c =
     let from : Origin = origin_of c.args.self.now in
     let may : may_return from.state ≡ true = rw (← c.self.view_is) (c.in-Ok-Restore.ensures.exact.0 refl) in
     let on : restored_from from.pages from.state ≡ Some c.in-Ok-Restore.page.0 =
-        rw (← c.self.view_is) (sym c.in-Ok-Restore.ensures.page ∙ ap page_of c.in-Ok-Restore.field-0-is) in
+    rw (← c.self.view_is) (sym c.in-Ok-Restore.ensures.page ∙ ap page_of c.in-Ok-Restore.field-0-is) in
     record {
       rest = begun-return from c.args.under.now c.in-Ok-Restore.page _ _ may on;
       is = search rules;

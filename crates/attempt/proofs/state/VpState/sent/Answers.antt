@@ -15,5 +15,5 @@ pub returns-in-Over : goal.returns-in-Over
 returns-in-Over c =
     let over = rw c.in-Over.is at (c.sending_on.ensures (origin_of c.args.self.now) c.requires.past) in
     let end : c.end.new.self ≡ ended c.args.under.now (Replied (result_value c.in-Over.status 0)) =
-      c.end.ensures ∙ ap (ended c.args.under.now) c.answered.ensures in
+    c.end.ensures ∙ ap (ended c.args.under.now) c.answered.ensures in
     record { rest = ap (rest_of (origin_of c.args.self.now)) end ∙ sym over; is = search rules; op = search rules }
