@@ -18,18 +18,24 @@ use Rattle.attempt.specs.declared.under.Under.{Under}
 use Rattle.attempt.specs.Rests.{stage_rest}
 use Rattle.attempt.specs.Results.{hit_note}
 
-pub begun-none : (from : Origin) (granted : Grant → What × State) (goal : Goal) (fault : Option GuestFault) → fault ≡ None → then_ (access goal) (leaves from goal.gva granted) ≡ begun from granted goal fault
+pub begun-none : (from : Origin) (granted : Grant → What × State) (goal : Goal) (fault : Option GuestFault)
+    → fault ≡ None → then_ (access goal) (leaves from goal.gva granted) ≡ begun from granted goal fault
 begun-none from granted goal None e = refl
 begun-none from granted goal (Some fault) e = cc
 
-pub begun-look : (from : Origin) (u : Under) (page : Page) (zero : Bool) (on : Option ℕ) (waiting : List Note) → zero ≡ false → on ≡ Some page.0 → (length waiting == 0) ≡ false → stage_rest from u (Enter (Look page Ending)) ≡ cond zero (Ends (eom_outcome from None)) (eom_on from on waiting)
+pub begun-look : (from : Origin) (u : Under) (page : Page) (zero : Bool) (on : Option ℕ) (waiting : List Note)
+    → zero ≡ false → on ≡ Some page.0 → (length waiting == 0) ≡ false
+    → stage_rest from u (Enter (Look page Ending)) ≡ cond zero (Ends (eom_outcome from None)) (eom_on from on waiting)
 begun-look from u page true on waiting z o w = cc
 begun-look from u page false on [] z o w = cc
 begun-look from u page false on (note ∷ more) z o w = rw o refl
 
-pub begun-hit : (from : Origin) (u : Under) (page : Page) (on : Option ℕ) → on ≡ Some page.0 → stage_rest from u (Enter (Look page Hit)) ≡ hits_on from (hit_note from u.op) on
+pub begun-hit : (from : Origin) (u : Under) (page : Page) (on : Option ℕ) → on ≡ Some page.0
+    → stage_rest from u (Enter (Look page Hit)) ≡ hits_on from (hit_note from u.op) on
 begun-hit from u page on o = rw o refl
 
-pub begun-return : (from : Origin) (u : Under) (page : Page) (may : Bool) (on : Option ℕ) → may ≡ true → on ≡ Some page.0 → stage_rest from u (Enter (Restore page)) ≡ cond may (returns from on) (Ends (faulted from Undefined))
+pub begun-return : (from : Origin) (u : Under) (page : Page) (may : Bool) (on : Option ℕ) → may ≡ true
+    → on ≡ Some page.0 → stage_rest from u (Enter (Restore page))
+    ≡ cond may (returns from on) (Ends (faulted from Undefined))
 begun-return from u page true on m o = rw o refl
 begun-return from u page false on m o = cc

@@ -17,14 +17,15 @@ use Rattle.rep_frame.specs.Asks.{look_call}
 use Rattle.rep_frame.specs.Frames.{Frame, frame_of}
 use Rattle.rep_frame.specs.Slices.{slice_numbers as frame_numbers, slice_settings}
 use Rattle.rep_frame.specs.declared.getting.Look.{Look as Register}
-use Rattle.attempt.specs.declared.input.Asked.TheVariants.{Look}
-use Rattle.attempt.specs.declared.site.Site.{Site}
+use Rattle.attempt.specs.declared.stage.Asked.TheVariants.{Look}
+use Rattle.attempt.specs.declared.stage.Site.{Site}
 use Rattle.attempt.specs.declared.stage.Stage.TheVariants.{Depart}
 use Rattle.attempt.specs.declared.under.Under.{Under}
 use Rattle.attempt.specs.Rests.{stage_rest}
 use Rattle.attempt.specs.Results.{set_outcome_of}
 
-sets-fine : (from : Origin) (header words : List ℕ) (refusal : Option HvStatus) → refusal ≡ None → sets_by from header words refusal ≡ sets_from from (target_level from.state.active header) (settings words)
+sets-fine : (from : Origin) (header words : List ℕ) (refusal : Option HvStatus) → refusal ≡ None
+    → sets_by from header words refusal ≡ sets_from from (target_level from.state.active header) (settings words)
 sets-fine from header words None e = refl
 sets-fine from header words (Some status) e = cc
 
@@ -32,8 +33,13 @@ abbrev own_frame : Origin → Frame
 own_frame from = frame_of (count_of from) (start_of from)
 
 -- registers of a level are set
-pub sets-done : (from : Origin) (header slice : List ℕ) (refusal : Option HvStatus) (target : Vtl) (length : ℕ) → refusal ≡ None → target ≡ target_level from.state.active header → length ≡ words_between 32 (start_of from) (past_of from)
-    → write_in from.state.active target (count_of from) (slice_settings (frame_of (count_of from) (start_of from)) slice) ≡ None → left_with (set_outcome_of from target (frame_of (count_of from) (start_of from)) slice) ≡ sets_by from header (take length slice) refusal
+pub sets-done : (from : Origin) (header slice : List ℕ) (refusal : Option HvStatus) (target : Vtl) (length : ℕ)
+    → refusal ≡ None → target ≡ target_level from.state.active header
+    → length ≡ words_between 32 (start_of from) (past_of from)
+    → write_in from.state.active target (count_of from)
+    (slice_settings (frame_of (count_of from) (start_of from)) slice) ≡ None
+    → left_with (set_outcome_of from target (frame_of (count_of from) (start_of from)) slice)
+    ≡ sets_by from header (take length slice) refusal
 sets-done from header slice refusal target length fine level all none =
     let found : List Setting = slice_settings (own_frame from) slice in
     sym (sets-fine from header (take length slice) refusal fine
@@ -41,18 +47,27 @@ sets-done from header slice refusal target length fine level all none =
     ∙ ap (λ n. sets_from from target (settings (take n slice))) all
     ∙ ap (sets_or_asks from target found) none)
 
-gets-fine : (from : Origin) (header words : List ℕ) (refusal : Option HvStatus) → refusal ≡ None → gets_by from header words refusal ≡ gets_from from (target_level from.state.active header) (slice_numbers from words)
+gets-fine : (from : Origin) (header words : List ℕ) (refusal : Option HvStatus) → refusal ≡ None
+    → gets_by from header words refusal ≡ gets_from from (target_level from.state.active header)
+    (slice_numbers from words)
 gets-fine from header words None e = refl
 gets-fine from header words (Some status) e = cc
 
 abbrev looks_so : Origin → PartCall → (address place : ℕ) → Tree Outcome
 looks_so from call address place =
-    Asks Leaving (λ _. Wants (asked_of from call) (λ (reply : Reply). in_access_from (λ generation. behind_page_mask from.state.active from Write address generation
-    (asks_all (writes (address / 4096) place (value_words reply.value)) (left_with (result_outcome from from.state reply.status reply.done))))))
+    Asks Leaving (λ _. Wants (asked_of from call)
+    (λ (reply : Reply). in_access_from (λ generation. behind_page_mask from.state.active from Write address
+    generation
+    (asks_all (writes (address / 4096) place (value_words reply.value))
+    (left_with (result_outcome from from.state reply.status reply.done))))))
 
 -- a register of the partition is asked for
-pub gets-asks : (from : Origin) (u : Under) (header slice : List ℕ) (refusal : Option HvStatus) (target : Vtl) (length at : ℕ) (register : Register) (site : Site) → refusal ≡ None → target ≡ target_level from.state.active header → length ≡ words_between 4 (start_of from) (past_of from)
-    → look_in from.state.active target (count_of from) (frame_numbers (frame_of (count_of from) (start_of from)) slice) ≡ Some (look_call register) → site.address ≡ output_address from.state → at ≡ site.address % 4096 / 8 + 2 * start_of from
+pub gets-asks : (from : Origin) (u : Under) (header slice : List ℕ) (refusal : Option HvStatus) (target : Vtl)
+    (length at : ℕ) (register : Register) (site : Site) → refusal ≡ None
+    → target ≡ target_level from.state.active header → length ≡ words_between 4 (start_of from) (past_of from)
+    → look_in from.state.active target (count_of from)
+    (frame_numbers (frame_of (count_of from) (start_of from)) slice) ≡ Some (look_call register)
+    → site.address ≡ output_address from.state → at ≡ site.address % 4096 / 8 + 2 * start_of from
     → stage_rest from u (Depart (Look register site at)) ≡ gets_by from header (take length slice) refusal
 gets-asks from u header slice refusal target length at register site fine level all look here place =
     let found : List ℕ = frame_numbers (own_frame from) slice in

@@ -12,11 +12,13 @@ one-less : (p past : ℕ) → p < past → past - p ≡ suc (past - (p + 1))
 one-less p past low = omega arith
 
 -- a processor that is named is the next one
-pub those-next : (bits p past : ℕ) → p < past → is_in bits p ≡ true → those_in bits p (past - p) ≡ p ∷ those_in bits (p + 1) (past - (p + 1))
+pub those-next : (bits p past : ℕ) → p < past → is_in bits p ≡ true
+    → those_in bits p (past - p) ≡ p ∷ those_in bits (p + 1) (past - (p + 1))
 those-next bits p past low is = rw (one-less p past low, is) refl
 
 -- and one that isn't is passed over
-pub those-skip : (bits p past : ℕ) → p < past → is_in bits p ≡ false → those_in bits p (past - p) ≡ those_in bits (p + 1) (past - (p + 1))
+pub those-skip : (bits p past : ℕ) → p < past → is_in bits p ≡ false
+    → those_in bits p (past - p) ≡ those_in bits (p + 1) (past - (p + 1))
 those-skip bits p past low is = rw (one-less p past low, is) refl
 
 -- the bits of so many processors are those of eight
@@ -24,7 +26,9 @@ pub few-bits : (n vps : ℕ) → vps ≤ 8 → n < 2 ^ vps → n < 2 ^ 8
 few-bits n vps few low = omega (arith, low, pow-le-pow_right {n = 2} (lit< tt) few)
 
 -- all posts of a call that nothing refuses
-pub all-sent : (from : Origin) (i : Interrupt) (header : List ℕ) (vps : ℕ) → i.level ≡ interrupted_level from.state.active header → i.vector ≡ vector_in header → i.processors ≡ processors_in header → vps ≡ from.vps → interrupts_by from header None ≡ sends_from from i 0 vps
+pub all-sent : (from : Origin) (i : Interrupt) (header : List ℕ) (vps : ℕ)
+    → i.level ≡ interrupted_level from.state.active header → i.vector ≡ vector_in header
+    → i.processors ≡ processors_in header → vps ≡ from.vps → interrupts_by from header None ≡ sends_from from i 0 vps
 all-sent from i header vps level vector processors same =
     let all : vps - 0 ≡ from.vps = omega (arith, same) in
     rw (all, level, vector, processors) refl

@@ -12,12 +12,14 @@ use Rattle.attempt.specs.declared.place.Place.TheVariants.{Start, Check, TableMa
 use Rattle.attempt.specs.Nexts.{IsAsking}
 use Rattle.attempt.specs.Paths.{path_rest, place_rest}
 
-pub after-then : {A B : Type 0} (t : Tree A) (f : A → Tree B) (x : ℕ) → IsAsking t → after (then_ t f) x ≡ then_ (after t x) f
+pub after-then : {A B : Type 0} (t : Tree A) (f : A → Tree B) (x : ℕ) → IsAsking t
+    → after (then_ t f) x ≡ then_ (after t x) f
 after-then (Ends a) f x asks = absurd asks
 after-then (Asks s k) f x asks = refl
 after-then (Wants q k) f x asks = absurd asks
 
-data-asks : (kind : Access) (goal : Goal) (page : ℕ) (mask : Option ℕ) (generation : ℕ) (fill : Option Fill) → IsAsking (data_step kind goal page mask generation fill)
+data-asks : (kind : Access) (goal : Goal) (page : ℕ) (mask : Option ℕ) (generation : ℕ) (fill : Option Fill)
+    → IsAsking (data_step kind goal page mask generation fill)
 data-asks Read goal page mask generation fill = tt
 data-asks Write goal page mask generation fill = tt
 data-asks Execute goal page mask generation fill = tt

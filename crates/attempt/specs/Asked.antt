@@ -2,8 +2,8 @@
 use Rattle.std.specs.Prelude.{ℕ, IsTrue}
 use Rattle.vsm_base.specs.Masks.{is_mask}
 use Rattle.vsm_core.specs.Tree.{WordStep, Entering, Checking, Masking, Reading, Writing, Leaving, Posting, Taking}
-use Rattle.attempt.specs.declared.step.Step.{Step}
-use Rattle.attempt.specs.declared.step.Step.TheVariants as steps
+use Rattle.attempt.specs.declared.stage.Step.{Step}
+use Rattle.attempt.specs.declared.stage.Step.TheVariants as steps
 
 abbrev pub word_step : Step → WordStep
 word_step steps.Enter = Entering

@@ -8,7 +8,7 @@ use Rattle.vsm_core.specs.Fills.{Fill}
 use Rattle.vsm_core.specs.Tree.{Tree, Ends, Asks, Checking, Masking}
 use Rattle.page_walk.specs.Half.{Stands}
 use Rattle.page_walk.specs.Told.{translation_of}
-use Rattle.attempt.specs.declared.aim.Aim.{Aim}
+use Rattle.attempt.specs.declared.place.Aim.{Aim}
 use Rattle.attempt.specs.declared.place.Fill.{Fill as Kept}
 use Rattle.attempt.specs.declared.place.Path.{Path}
 use Rattle.attempt.specs.declared.place.Place.{Place}
@@ -41,7 +41,14 @@ filled_by p filled = if filled then Some (fill_of p.fill) else None
 
 -- the grant of an access that leads there and has found this value
 abbrev pub grant_of : Kept → ℕ → Grant
-grant_of f value = record { page = record { 0 = f.to.page }; mask = f.mask; generation = f.generation; value = value; hit = false }
+grant_of f value = record {
+  page = record { 0 = f.to.page };
+  mask = f.mask;
+  generation = f.generation;
+  value =
+      value;
+  hit = false;
+}
 
 -- an access of this kind needs an address that is a multiple of 8
 abbrev pub is_aligned : Access → Bool
@@ -67,9 +74,11 @@ tables_of p w = tables (3 - w.taken) (goal_of p.aim) w.generation
 abbrev pub place_rest : Path → Place → Tree Decision
 place_rest p Start = access (goal_of p.aim)
 place_rest p Check = Asks Checking (from_check (goal_of p.aim))
-place_rest p (TableMask w page index) = Asks (Masking page.0) (by_table_mask (tables_of p w) (taken_of p w) w.generation page.0 index)
+place_rest p (TableMask w page index) = Asks (Masking page.0)
+    (by_table_mask (tables_of p w) (taken_of p w) w.generation page.0 index)
 place_rest p (TableRead w page index) = entry_step (tables_of p w) (taken_of p w) page.0 index
-place_rest p DataMask = Asks (Masking p.fill.to.page) (by_mask (goal_of p.aim) (translation_of p.fill.to) p.fill.generation)
+place_rest p DataMask = Asks (Masking p.fill.to.page)
+    (by_mask (goal_of p.aim) (translation_of p.fill.to) p.fill.generation)
 place_rest p Data = reaches (goal_of p.aim) (translation_of p.fill.to) p.fill.generation p.fill.mask
 
 abbrev pub path_rest : Path → Tree Decision

@@ -5,8 +5,8 @@ use Rattle.vsm_core.specs.Controllers.{writes, rings}
 use Rattle.vsm_core.specs.Tree.{WordStep}
 use Rattle.vtl_switch.specs.Answers.{number_of}
 use Rattle.attempt.specs.Asked.{word_step}
-use Rattle.attempt.specs.declared.plan.Plan.{Plan}
-use Rattle.attempt.specs.declared.step.Step.{Step}
+use Rattle.attempt.specs.declared.stage.Plan.{Plan}
+use Rattle.attempt.specs.declared.stage.Step.{Step}
 
 -- of the processor of this number, where these are the words
 abbrev pub planned : ℕ → List ℕ → Plan → List WordStep

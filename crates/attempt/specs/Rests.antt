@@ -1,9 +1,11 @@
 -- What is left of an attempt at its stages.
 use Rattle.std.specs.Prelude.{◌≡◌, ℕ, ◌+◌, ◌*◌, ◌/◌, ◌%◌, ◌^◌, ◌<◌, ◌≤◌, true, false, is_some, Option, Some, None, IfSome, List, ◌++◌, take, drop}
+use Rattle.vsm_base.specs.declared.places.Access.{Access as Reach}
 use Rattle.vsm_base.specs.declared.places.Access.TheVariants.{Read, Write}
 use Rattle.vsm_base.specs.declared.name.Name.{Name}
 use Rattle.vsm_core.specs.declared.note.Note.{Note}
-use Rattle.vsm_core.specs.Attempt.{left_with, in_access_from, posting, told_on, tells, hit_tells, sends, polled, leaves, by_page_mask, behind_page_mask, reads_input, reads_slice, by_input}
+use Rattle.vsm_core.specs.declared.operation.Op.{Op}
+use Rattle.vsm_core.specs.Attempt.{left_with, in_access_from, posting, told_on, tells, hit_tells, sends, polled, leaves, by_page_mask, behind_page_mask, reads_input, reads_slice, by_input, by_access, goal_of}
 use Rattle.vsm_core.specs.Controllers.{message_page, vector_words}
 use Rattle.vsm_core.specs.Hypercalls.{has_output, output_address}
 use Rattle.vsm_core.specs.Outcomes.{Origin, Outcome, note_of, plain, register_note}
@@ -12,13 +14,14 @@ use Rattle.vsm_core.specs.Reps.{words_between}
 use Rattle.vsm_core.specs.Switch.{assist_page, by_interrupt, may_enter, may_return, returned, rax_index, rcx_index}
 use Rattle.vsm_core.specs.Tree.{Tree, Ends, Asks, Checking, Masking, Reading, Leaving, then_, asks_all, takes, reads}
 use Rattle.hyper_abi.specs.Told.{row_for}
-use Rattle.attempt.specs.declared.decided.Decided.{Decided}
-use Rattle.attempt.specs.declared.decided.Decided.TheVariants.{Granted, Set}
-use Rattle.attempt.specs.declared.input.Reads.{Reads}
-use Rattle.attempt.specs.declared.refusal.Refusal.{Refusal}
-use Rattle.attempt.specs.declared.site.Site.{Site}
+use Rattle.attempt.specs.declared.stage.Decided.{Decided}
+use Rattle.attempt.specs.declared.stage.Decided.TheVariants.{Granted, Set}
+use Rattle.attempt.specs.declared.stage.Reads.{Reads}
+use Rattle.attempt.specs.declared.stage.Refusal.{Refusal}
+use Rattle.attempt.specs.declared.stage.Site.{Site}
 use Rattle.attempt.specs.declared.stage.Behind.{Behind}
 use Rattle.attempt.specs.declared.stage.Behind.TheVariants as behinds
+use Rattle.attempt.specs.declared.stage.Gate.{Gate}
 use Rattle.attempt.specs.declared.stage.Inner.{Inner}
 use Rattle.attempt.specs.declared.stage.Inner.TheVariants as inners
 use Rattle.attempt.specs.declared.stage.Matter.{Matter}
@@ -27,7 +30,7 @@ use Rattle.attempt.specs.declared.stage.Stage.{Stage}
 use Rattle.attempt.specs.declared.stage.Stage.TheVariants.{Access, Enter, Check, Mask, Look, Rax, Rcx, Header, Slice, Make, Take, Depart, Want, Quit, Send, End}
 use Rattle.attempt.specs.declared.under.Under.{Under}
 use Rattle.attempt.specs.Calls.{AskedIs, SendIs, asks_for, header_of, header_words, sends_now}
-use Rattle.attempt.specs.Paths.{IsPlaced, path_rest}
+use Rattle.attempt.specs.Paths.{IsPlaced, is_aligned, path_rest}
 use Rattle.attempt.specs.Plans.{PlanIs, planned}
 use Rattle.attempt.specs.Results.{done_by, granted_of, hit_note, refusal_of, result_of}
 
@@ -38,7 +41,8 @@ made_rest from u = asks_all (planned from.number u.output u.plan) (left_with (re
 -- level 1 is told this, where the message slot has this first word, and entered
 abbrev pub posts : Origin → Note → ℕ → Outcome → Tree Outcome
 posts from note word o =
-    asks_all (posting from (message_page from.pages from.state) note (Some word) ++ told_on (assist_page from.pages from.state) by_interrupt) (left_with o)
+    asks_all (posting from (message_page from.pages from.state) note (Some word) ++ told_on
+    (assist_page from.pages from.state) by_interrupt) (left_with o)
 
 -- what level 1 is told of a register that is written with a value, or read
 abbrev pub told_of : Origin → Name → Option ℕ → Note
@@ -51,14 +55,16 @@ with_refusal u refusal = record u { refusal = refusal }
 
 -- the first word of the message slot is read
 abbrev pub by_word : Origin → Under → Matter → ℕ → Tree Outcome
-by_word from u Denial word = tells from (refusal_of u.refusal) (note_of from u.refusal.gva (refusal_of u.refusal)) (done_by from u) (Some word)
+by_word from u Denial word = tells from (refusal_of u.refusal) (note_of from u.refusal.gva (refusal_of u.refusal))
+    (done_by from u) (Some word)
 by_word from u Hit word = hit_tells from (hit_note from u.op) (Some word)
 by_word from u Ending word = sends from word
 
 -- the mask of the output's page decides at level 0, where there is an output
 abbrev pub output_masked : Origin → Option Site → (generation : ℕ) → Tree Outcome → Tree Outcome
 output_masked from None generation rest = rest
-output_masked from (Some site) generation rest = behind_page_mask from.state.active from Write site.address generation rest
+output_masked from (Some site) generation rest =
+    behind_page_mask from.state.active from Write site.address generation rest
 
 abbrev pub words_rest : Origin → Under → Tree Outcome
 words_rest from u = reads_input from (row_for u.head.call) u.head.site.address
@@ -76,13 +82,20 @@ behind_rest from u behinds.Input generation = output_masked from u.head.output g
 behind_rest from u behinds.Words generation = words_rest from u
 behind_rest from u behinds.Make generation = made_rest from u
 
+-- what comes where a page's mask binds level 0
+abbrev pub gate_rest : Origin → Under → Gate → Tree Outcome
+gate_rest from u gate =
+    behind_page_mask from.state.active from gate.access gate.site.address gate.generation
+    (behind_rest from u gate.behind gate.generation)
+
 -- what comes once the generation is checked
 abbrev pub inner_rest : Origin → Under → Inner → (generation : ℕ) → Tree Outcome
 inner_rest from u (inners.Look page matter) generation = Asks (Reading page.0 0) (by_word from u matter)
 inner_rest from u inners.Make generation = made_rest from u
 inner_rest from u (inners.Restore page) generation = Asks (Reading page.0 rax_index) (by_rax from page.0)
 inner_rest from u inners.Input generation =
-    behind_page_mask from.state.active from Read u.head.site.address generation (behind_rest from u behinds.Input generation)
+    behind_page_mask from.state.active from Read u.head.site.address generation
+    (behind_rest from u behinds.Input generation)
 inner_rest from u (inners.Output site) generation =
     behind_page_mask from.state.active from Write site.address generation (behind_rest from u behinds.Make generation)
 
@@ -90,17 +103,25 @@ inner_rest from u (inners.Output site) generation =
 abbrev pub reads_rest : Reads → List ℕ → (List ℕ → Tree Outcome) → Tree Outcome
 reads_rest r words rest = reads r.page.0 r.index r.left (take r.done words) rest
 
+-- what is left of an operation that makes one access
+abbrev pub reaching : Origin → Op → Reach → (gva value : ℕ) → Tree Outcome
+reaching from op access gva value =
+    by_access from (granted_of from.state op) (goal_of from.pages from.state access (is_aligned access) gva value)
+
 -- what is left at a stage
 abbrev pub stage_rest : Origin → Under → Stage → Tree Outcome
 stage_rest from u Access = then_ (path_rest u.path) (leaves from u.path.aim.gva.0 (granted_of from.state u.op))
 stage_rest from u (Enter inner) = in_access_from (inner_rest from u inner)
 stage_rest from u (Check inner) = Asks Checking (inner_rest from u inner)
 stage_rest from u (Mask gate) =
-    Asks (Masking (gate.site.address / 4096)) (by_page_mask from gate.access gate.site.address gate.generation (behind_rest from u gate.behind gate.generation))
+    Asks (Masking (gate.site.address / 4096))
+    (by_page_mask from gate.access gate.site.address gate.generation
+    (behind_rest from u gate.behind gate.generation))
 stage_rest from u (Look page matter) = Asks (Reading page.0 0) (by_word from u matter)
 stage_rest from u (Rax page) = Asks (Reading page.0 rax_index) (by_rax from page.0)
 stage_rest from u (Rcx page rax) = Asks (Reading page.0 rcx_index) (by_rcx from rax)
-stage_rest from u (Header reads) = reads_rest reads u.header (reads_slice from (row_for u.head.call) u.head.site.address)
+stage_rest from u (Header reads) = reads_rest reads u.header
+    (reads_slice from (row_for u.head.call) u.head.site.address)
 stage_rest from u (Slice reads) = reads_rest reads u.slice (by_input from (row_for u.head.call).code (header_of u))
 stage_rest from u Make = made_rest from u
 stage_rest from u (Take count) = takes (drop count vector_words) (take count u.taken) (polled from)
@@ -186,3 +207,9 @@ IsAt from u End = DecidedIs from u u.decided
 
 abbrev pub StageIs : Origin → Under → Type 0
 StageIs from u = IsAt from u u.stage
+
+-- the attempt goes on at a stage where this is left of it
+pub record LeadsTo (from : Origin) (old new : Under) (tree : Tree Outcome) : Type 0 where
+  pub rest : rest_of from new ≡ tree
+  pub is : StageIs from new
+  pub op : new.op ≡ old.op

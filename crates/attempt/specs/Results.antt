@@ -22,9 +22,9 @@ use Rattle.vsm_core.specs.State.{State, gone_to}
 use Rattle.vsm_core.specs.Switch.{may_enter, may_call, may_return, called, returned}
 use Rattle.rep_frame.specs.Frames.{Frame, frame_of}
 use Rattle.rep_frame.specs.Slices.{end_of, setting_refusals, slice_set, slice_settings}
-use Rattle.attempt.specs.declared.decided.Decided.{Decided}
-use Rattle.attempt.specs.declared.decided.Decided.TheVariants as by
-use Rattle.attempt.specs.declared.refusal.Refusal.{Refusal}
+use Rattle.attempt.specs.declared.stage.Decided.{Decided}
+use Rattle.attempt.specs.declared.stage.Decided.TheVariants as by
+use Rattle.attempt.specs.declared.stage.Refusal.{Refusal}
 use Rattle.attempt.specs.declared.under.Under.{Under}
 use Rattle.attempt.specs.Paths.{fill_of, filled_by, grant_of}
 
@@ -49,7 +49,8 @@ denied_or_held from r does slot =
 
 -- a poll after which the controllers hold this
 abbrev pub polled_outcome : State → Controllers → Outcome
-polled_outcome state controllers = if is_wanted state controllers then wanted_outcome state controllers else unwanted_outcome state controllers
+polled_outcome state controllers = if is_wanted state controllers then wanted_outcome state controllers else
+    unwanted_outcome state controllers
 
 -- what an operation comes to that makes no step
 abbrev pub local_outcome : Origin → Op → Outcome
@@ -74,13 +75,15 @@ hit_note from _ = register_note from false names.Rax 0
 -- an intercepted register where the message slot has this first word: level 1 is entered, where it may be
 abbrev pub hit_or_held : Origin → Op → Option ℕ → Outcome
 hit_or_held from op slot =
-    if may_enter from.state then hit_outcome from (hit_note from op) slot else outcome_at from (whats.Hit Held) from.state []
+    if may_enter from.state then hit_outcome from (hit_note from op) slot else outcome_at from
+    (whats.Hit Held) from.state []
 
 -- a slice of a call that sets registers of a level, whose elements these words hold
 abbrev pub set_outcome_of : Origin → Vtl → Frame → List ℕ → Outcome
 set_outcome_of from target frame words =
     slice_outcome from (slice_set from.state.active target frame words from.state)
-    (all_emptied target (take (acting (setting_refusals from.state.active target frame words)) (slice_settings frame words)))
+    (all_emptied target (take (acting (setting_refusals from.state.active target frame words))
+    (slice_settings frame words)))
     (end_of frame (setting_refusals from.state.active target frame words))
 
 -- a call has this result, in this state
@@ -101,7 +104,8 @@ outcome_of from u (by.Denied slot) = denied_or_held from u.refusal (done_by from
 outcome_of from u (by.Fault fault) = faulted from fault
 outcome_of from u by.Polled = polled_outcome from.state (with_taken from.controllers u.taken)
 outcome_of from u (by.Replied value) = reply_outcome from from.state value
-outcome_of from u (by.Enabled level value) = reply_outcome from (with_context from.state (Some (level, take 28 u.header))) value
+outcome_of from u (by.Enabled level value) =
+    reply_outcome from (with_context from.state (Some (level, take 28 u.header))) value
 outcome_of from u (by.Part next) = part_outcome from from.state [] next
 outcome_of from u (by.Set target) = set_outcome_of from target (frame_of (count_of from) (start_of from)) u.slice
 outcome_of from u (by.Eom slot) = eom_outcome from slot

@@ -3,8 +3,8 @@ use Rattle.std.specs.Prelude.{◌≡◌}
 use Rattle.vsm_core.specs.Hypercalls.{result_outcome}
 use Rattle.vsm_core.specs.Outcomes.{Origin, Outcome}
 use Rattle.vsm_core.specs.Tree.{Tree, Ends}
-use Rattle.attempt.specs.declared.interrupt.Sends.{Sends}
-use Rattle.attempt.specs.declared.interrupt.Sends.TheVariants.{Post, Over}
+use Rattle.attempt.specs.declared.given.Sends.{Sends}
+use Rattle.attempt.specs.declared.given.Sends.TheVariants.{Post, Over}
 use Rattle.attempt.specs.Calls.{SendIs, sends_now}
 
 -- what is left outside of accesses

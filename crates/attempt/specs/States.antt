@@ -1,7 +1,7 @@
 -- A processor's state, by the parts that hold it.
 use Rattle.vtl_state.specs.States.{state_of}
 use Rattle.vsm_core.specs.Controllers.{Controllers}
-use Rattle.attempt.specs.declared.controllers.Controllers.{Controllers as Parts}
+use Rattle.attempt.specs.declared.state.Controllers.{Controllers as Parts}
 use Rattle.attempt.specs.declared.state.VpState.TheInside.{Inside}
 use Rattle.attempt.specs.Views.{VpView}
 

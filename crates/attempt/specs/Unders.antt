@@ -1,15 +1,24 @@
 -- An attempt under way that was decided.
 use Rattle.std.specs.Prelude.{ℕ, Option, None}
 use Rattle.vsm_base.specs.declared.places.Page.{Page}
-use Rattle.attempt.specs.declared.decided.Decided.{Decided}
-use Rattle.attempt.specs.declared.input.Asked.{Asked}
-use Rattle.attempt.specs.declared.plan.Plan.{Plan}
+use Rattle.attempt.specs.declared.stage.Decided.{Decided}
+use Rattle.attempt.specs.declared.stage.Asked.{Asked}
+use Rattle.attempt.specs.declared.stage.Plan.{Plan}
 use Rattle.attempt.specs.declared.stage.Stage.TheVariants.{Make, Depart, End}
 use Rattle.attempt.specs.declared.under.Under.{Under}
 
 -- no step is planned, but that the assist page is told the reason, where it is on
 abbrev pub only_told : Option Page → ℕ → Plan
-only_told told reason = record { page = record { 0 = 0 }; at = 0; next = 0; count = 0; vector = None; told = told; reason = reason }
+only_told told reason = record {
+  page = record { 0 = 0 };
+  at = 0;
+  next = 0;
+  count = 0;
+  vector = None;
+  told =
+      told;
+  reason = reason;
+}
 
 -- with no step left
 abbrev pub ended : Under → Decided → Under

@@ -1,33 +1,45 @@
 // What an attempt does to the state of its processor, where it has come to its end.
-ghost use Rattle.std.specs.Prelude.{◌≡◌, ◌<◌, ◌^◌, List};
+ghost use Rattle.std.specs.Prelude.{◌≡◌, ◌<◌, ◌^◌, List, ◌≤◌, [], take, Some};
+ghost use Rattle.rep_frame.specs.Frames.{frame_of};
+ghost use Rattle.synic.specs.Ends.{eom_word};
+ghost use Rattle.vsm_core.specs.Contexts.{with_context};
 ghost use Rattle.vsm_core.specs.Controllers.{with_taken};
 ghost use Rattle.vsm_core.specs.Fills.{Cached};
-ghost use Rattle.vsm_core.specs.Outcomes.{ack_outcome, eoi_outcome, eom_outcome, get_outcome, jumped, set_outcome};
+ghost use Rattle.vsm_core.specs.Hypercalls.{input_value, with_result};
+ghost use Rattle.vsm_core.specs.Outcomes.{ack_outcome, eoi_outcome, eom_outcome, get_outcome, jumped, set_outcome, Origin};
+ghost use Rattle.vsm_core.specs.RegisterCalls.{count_of, part_outcome, start_of};
+ghost use Rattle.vsm_core.specs.Reps.{with_start as with_start_lem};
 ghost use Rattle.vsm_core.specs.State.{gone_on, gone_to, put_legal as put_legal_lem};
-ghost use Rattle.synic.specs.Ends.{eom_word};
 ghost use Rattle.vsm_core.specs.Switch.{may_call as may_call_lem, may_return as may_return_lem, called, returned};
 ghost use Rattle.attempt.specs.Comings.{Comes};
 ghost use Rattle.attempt.specs.Paths.{grant_of as grant_of_lem};
 ghost use Rattle.attempt.specs.Rests.{DecidedIs};
-ghost use Rattle.attempt.specs.Results.{denied_or_held, granted_of, hit_or_held, local_outcome, polled_outcome, result_of, switched};
+ghost use Rattle.attempt.specs.Results.{denied_or_held, granted_of, hit_or_held, local_outcome, polled_outcome, result_of, switched, reply_outcome, set_outcome_of, again_by};
 ghost use Rattle.attempt.specs.Views.{origin_of};
 
-use crate::decided::Decided;
+use crate::begin::{lower, upper};
 use crate::place::Fill;
-use crate::poll::{lower, upper};
-use crate::refusal::Refusal;
+use crate::stage::{Decided, Refusal};
 use crate::state::VpState;
-use crate::under::Under;
-use register_file::BadValue;
+use crate::under::{Under, front_of};
+use register_file::{BadValue, Context};
+use rep_frame::{RepFrame, SliceEnd, set_slice};
 use synic::EomStep;
-use vsm_base::{Name, Page, Vtl};
+use vsm_base::{HvStatus, Name, Page, Vtl};
 use vsm_core::{Denial, EomWord, Grant, GuestFault, Op, Posted, What};
 use vtl_state::word_of;
 use vtl_switch::{call, give_back, interrupt_entry};
 
 /// What was denied, and where its note went.
 fn denial(refusal: &Refusal, posted: Posted) -> Denial
-    ensures { result ≡ record { page = refusal.now.page; mask = refusal.now.mask; generation = refusal.now.generation; access = refusal.now.access; posted = posted } }
+    ensures { result ≡ record {
+      page = refusal.now.page;
+      mask = refusal.now.mask;
+      generation =
+          refusal.now.generation;
+      access = refusal.now.access;
+      posted = posted;
+    } }
 {
     Denial {
         page: refusal.page,
@@ -99,7 +111,8 @@ impl VpState {
     /// An access was denied: level 1 is told and entered, where it may be. Else the processor is held.
     fn deny(&mut self, refusal: &Refusal, slot: Option<u64>) -> What
         requires { 0 < self.old.room }
-        ensures { (does : List Cached) → Comes self.old self.new result (denied_or_held (origin_of self.old) refusal.now does slot) }
+        ensures { (does : List Cached) → Comes self.old self.new result
+            (denied_or_held (origin_of self.old) refusal.now does slot) }
     {
         let note = self.note_of(refusal);
         match interrupt_entry(&mut self.bank, &mut self.levels, self.limits.pages) {
@@ -218,7 +231,8 @@ impl VpState {
 
     /// Level 0 calls level 1.
     fn call(&mut self) -> What
-        ensures { Comes self.old self.new result (switched (may_call_lem self.old.state) (origin_of self.old) (called self.old.state)) }
+        ensures { Comes self.old self.new result
+            (switched (may_call_lem self.old.state) (origin_of self.old) (called self.old.state)) }
     {
         match call(&mut self.bank, &mut self.levels, self.limits.pages) {
             Ok(_) => What::Plain,
@@ -228,7 +242,8 @@ impl VpState {
 
     /// Level 1 returns to level 0.
     fn give_back(&mut self, pair: Option<(u64, u64)>) -> What
-        ensures { Comes self.old self.new result (switched (may_return_lem self.old.state) (origin_of self.old) (returned self.old.state pair)) }
+        ensures { Comes self.old self.new result
+            (switched (may_return_lem self.old.state) (origin_of self.old) (returned self.old.state pair)) }
     {
         match give_back(&mut self.bank, &mut self.levels, pair) {
             Ok(()) => What::Plain,
@@ -238,7 +253,8 @@ impl VpState {
 
     /// A poll has taken these words.
     fn poll(&mut self, found: &[u64; 8]) -> What
-        ensures { Comes self.old self.new result (polled_outcome self.old.state (with_taken self.old.controllers found.now)) }
+        ensures { Comes self.old self.new result
+            (polled_outcome self.old.state (with_taken self.old.controllers found.now)) }
     {
         let wanted = self.is_wanted(found);
         self.controllers.zero.request_all(&lower(found));
@@ -284,6 +300,96 @@ impl VpState {
             Decided::Part(next) => self.part(next),
             Decided::Set(target) => self.set_registers(target, &under.slice),
             Decided::Eom(slot) => self.end_message(slot),
+        }
+    }
+}
+
+/// An input value with this start index. The bits above the index must be zero.
+fn with_start(value: u64, start: u16) -> u64
+    ensures { result ≡ with_start_lem value start }
+{
+    value % (1 << 48) + (u64::from(start) << 48)
+}
+
+impl VpState {
+    /// A call has its result.
+    pub fn reply(&mut self, value: u64) -> What
+        ensures what { result ≡ What.Reply value }
+        ensures state { self.new ≡ record self.old { state = with_result self.old.state value } }
+    {
+        self.put_legal(Name::Rax, u128::from(value));
+        self.go_on();
+        What::Reply(value)
+    }
+
+    /// A level gets its context, unless it is enabled already or the context has a bit that must be zero.
+    pub fn give_context(&mut self, level: Vtl, words: &[u64; 28])
+        ensures { self.new ≡ record self.old { state = with_context self.old.state (Some (level, words.now)) } }
+    {
+        if let Ok(context) = Context::read(words) {
+            let _ = self.levels.enable(&mut self.bank, level, &context);
+        }
+    }
+
+    /// A call has enabled a level, whose context these words begin with, and has its result.
+    pub fn enable(&mut self, words: &[u64; 32], level: Vtl, value: u64) -> What
+        ensures { Comes self.old self.new result
+            (reply_outcome (origin_of self.old) (with_context self.old.state (Some (level, take 28 words.now)))
+            value) }
+    {
+        self.give_context(level, &front_of(words));
+        self.reply(value)
+    }
+
+    /// A call goes on at this element: the register that has its input value, which was this, says so.
+    fn go_on_at(&mut self, value: u64, next: u16) -> What
+        ensures what { result ≡ What.Part next }
+        ensures state { self.new ≡ record self.old
+            { state = put_legal_lem self.old.state Name.Rcx (with_start_lem value next) } }
+    {
+        let value = with_start(value, next);
+        self.put_legal(Name::Rcx, u128::from(value));
+        What::Part(next)
+    }
+
+    /// A call goes on at this element.
+    pub fn part(&mut self, next: u16) -> What
+        ensures { Comes self.old self.new result (part_outcome (origin_of self.old) self.old.state [] next) }
+    {
+        let value = word_of(&self.bank, &self.levels, Name::Rcx);
+        self.go_on_at(value, next)
+    }
+
+    /// The elements of a slice set registers of a level, up to the first that is refused.
+    pub fn set_registers(&mut self, target: Vtl, words: &[u64; 32]) -> What
+        requires { start_of (origin_of self.old) ≤ count_of (origin_of self.old) }
+        ensures { Comes self.old self.new result
+            (set_outcome_of (origin_of self.old) target
+            (frame_of (count_of (origin_of self.old)) (start_of (origin_of self.old))) words.now) }
+    {
+        let value = word_of(&self.bank, &self.levels, Name::Rcx);
+        let (start, count) = self.elements();
+        let caller = self.levels.active();
+        let mut frame = RepFrame::new(count, start);
+        match set_slice(&mut self.bank, caller, target, &mut frame, words) {
+            SliceEnd::Refused(status, _) => self.reply(frame.finish(status).bits()),
+            SliceEnd::GoesOn(next) => self.go_on_at(value, next),
+            SliceEnd::Complete(_) => self.reply(frame.finish(HvStatus::SUCCESS).bits()),
+        }
+    }
+}
+
+impl Under {
+    /// The grant of a spin that found another value.
+    pub fn again(&self) -> Option<Grant>
+        requires { (from : Origin) × DecidedIs from self.now self.now.decided }
+        ensures { result ≡ again_by self.now self.now.op self.now.decided }
+    {
+        match (&self.op, self.decided) {
+            (Op::Spin(_, wanted), Decided::Granted(value)) if value != *wanted => {
+                Some(grant_of(&self.path.fill, value))
+            }
+            _ => None,
         }
     }
 }

@@ -1,9 +1,33 @@
-// How far an access has come.
-use crate::aim::Aim;
-use crate::refusal::Refusal;
+// An access: what it is for, and how far it has come.
+use crate::stage::Refusal;
 use page_walk::{Translation, Walk};
-use vsm_base::{Mask, Page};
+use vsm_base::{Access, Gva, Mask, Page, Vtl};
 use vsm_core::GuestFault;
+
+/// One access, as an operation of a level asks for it.
+#[derive(Clone, Copy)]
+pub struct Aim {
+    /// The level that makes it. No mask binds level 1.
+    pub level: Vtl,
+    /// The privilege level, 0 to 3 (Intel SDM, Privilege Levels).
+    pub cpl: u8,
+    /// Control register CR0, whose bit 31 turns paging on (Intel SDM, Control Registers).
+    pub cr0: u64,
+    /// Control register CR3, whose bits 51:12 name the page of the first table.
+    pub cr3: u64,
+    /// The address.
+    pub gva: Gva,
+    /// What it does to the word.
+    pub access: Access,
+    /// The bits that the mask of the data page must have at level 0.
+    pub need: u32,
+    /// Whether the address must be a multiple of 8.
+    pub aligned: bool,
+    /// What a write stores.
+    pub value: u64,
+    /// The page count: pages at or above it are unmapped.
+    pub pages: u32,
+}
 
 /// Where an access leads: the address page, where that leads, the mask of that page, where one binds, and the
 /// generation that was checked. It is what a cache keeps of an access that walked.

@@ -1,20 +1,25 @@
-// The steps of a plan, and the plans by which level 1 is told of an intercept and a message is ended.
+// The steps of a plan, the notes by which level 1 is told of an intercept, and the plans that post them.
 ghost use Rattle.std.specs.Prelude.{◌≡◌, ◌++◌, ◌+◌, ◌≤◌, ℕ, List, Some, None, take};
-ghost use Rattle.vsm_core.specs.Attempt.{told_on, posting as posting_lem, sending as sending_lem};
+ghost use Rattle.vsm_core.specs.Attempt.{told_on, posting as posting_lem, sending as sending_lem, refused as refused_lem};
 ghost use Rattle.vsm_core.specs.Controllers.{message_page as message_page_lem, message_steps, pending_steps, writes};
 ghost use Rattle.vsm_core.specs.Messages.{flagged as flagged_lem};
+ghost use Rattle.vsm_core.specs.Outcomes.{note_of as note_of_lem};
+ghost use Rattle.vsm_core.specs.declared.operation.Op.{Op};
 ghost use Rattle.vtl_switch.specs.Answers.{number_of};
 ghost use Rattle.attempt.specs.Plans.{planned, IsPopped, PlanIs};
+ghost use Rattle.attempt.specs.Rests.{by_word, posts, rest_of, told_of, with_refusal, DecidedIs, MatterIs, StageIs, LeadsTo};
+ghost use Rattle.attempt.specs.Results.{done_by, hit_note, outcome_of, refusal_of};
 ghost use Rattle.attempt.specs.Unders.{only_told};
 ghost use Rattle.attempt.specs.Views.{origin_of};
 
-use crate::plan::Plan;
+use crate::stage::{Decided, Matter, Plan, Refusal, Stage, Step};
 use crate::state::VpState;
-use crate::step::Step;
+use crate::under::Under;
 use intercept_msg::words;
 use synic::{is_open, with_pending};
-use vsm_base::{Page, VpIndex, Vtl};
-use vsm_core::{Note, PendingWord};
+use vsm_base::{Name, Page, VpIndex, Vtl};
+use vsm_core::{MemNote, Note, Op, PendingWord, RegNote};
+use vtl_state::word_of;
 use vtl_switch::entry_word;
 
 /// Level 1 was entered by an interrupt or an intercept (TLFS, HV_VTL_ENTRY_REASON).
@@ -99,7 +104,8 @@ pub fn put_words(page: Page, at: u16, count: u8) -> Plan
 pub fn telling(plan: Plan, told: Option<Page>) -> Plan
     requires told { plan.told ≡ None }
     requires is { PlanIs plan }
-    ensures steps { (number : ℕ) (words : List ℕ) → planned number words result ≡ planned number words plan ++ told_on (number_of told) plan.reason }
+    ensures steps { (number : ℕ) (words : List ℕ)
+        → planned number words result ≡ planned number words plan ++ told_on (number_of told) plan.reason }
     ensures is { PlanIs result }
 {
     Plan { told, ..plan }
@@ -130,7 +136,8 @@ fn flagged(words: [u64; 12], more: bool) -> [u64; 12]
 impl VpState {
     /// A message goes to the slot.
     fn message(&self, output: &mut [u64; 16], page: Page, words: &[u64; 12]) -> Plan
-        ensures steps { planned self.now.number output.new result ≡ message_steps self.now.number self.now.state page.0 words.now }
+        ensures steps { planned self.now.number output.new result
+            ≡ message_steps self.now.number self.now.state page.0 words.now }
         ensures told { result.told ≡ None }
         ensures reason { result.reason ≡ 2 }
         ensures is { PlanIs result }
@@ -149,7 +156,9 @@ impl VpState {
 
     /// The steps by which a new note's message is posted, where the message slot has this first word.
     pub fn posting(&self, output: &mut [u64; 16], note: &Note, word: u64) -> Plan
-        ensures steps { planned self.now.number output.new result ≡ posting_lem (origin_of self.now) (message_page_lem self.now.limits.pages self.now.state) note.now (Some word) }
+        ensures steps { planned self.now.number output.new result
+            ≡ posting_lem (origin_of self.now) (message_page_lem self.now.limits.pages self.now.state) note.now
+            (Some word) }
         ensures told { result.told ≡ None }
         ensures reason { result.reason ≡ 2 }
         ensures is { PlanIs result }
@@ -169,7 +178,9 @@ impl VpState {
 
     /// The steps of an end of message, where the message slot has this first word.
     pub fn sending(&self, output: &mut [u64; 16], word: u64) -> Plan
-        ensures steps { planned self.now.number output.new result ≡ sending_lem (origin_of self.now) (message_page_lem self.now.limits.pages self.now.state) self.now.controllers.waiting word }
+        ensures steps { planned self.now.number output.new result
+            ≡ sending_lem (origin_of self.now) (message_page_lem self.now.limits.pages self.now.state)
+            self.now.controllers.waiting word }
         ensures is { PlanIs result }
     {
         let Some(page) = self.message_page() else {
@@ -183,5 +194,106 @@ impl VpState {
             return pending(output, page, word);
         }
         self.message(output, page, &flagged(words(note), waiting.len() > 1))
+    }
+}
+
+impl VpState {
+    /// What level 1 is told of a denied access.
+    pub fn note_of(&self, refusal: &Refusal) -> Note
+        ensures { result ≡ note_of_lem (origin_of self.now) refusal.now.gva (refusal_of refusal.now) }
+    {
+        let level = self.levels.active();
+        Note::Memory(MemNote {
+            vp: self.number,
+            access: refusal.access,
+            cs: self.bank.get(level, Name::Cs),
+            rip: word_of(&self.bank, &self.levels, Name::Rip),
+            rflags: word_of(&self.bank, &self.levels, Name::Rflags),
+            gva: refusal.gva,
+            gpa: refusal.gpa,
+        })
+    }
+
+    /// What level 1 is told of a register that it intercepts: a read has value 0.
+    fn register_note(&self, name: Name, written: Option<u128>) -> Note
+        ensures { result ≡ told_of (origin_of self.now) name written }
+    {
+        let level = self.levels.active();
+        Note::Register(RegNote {
+            vp: self.number,
+            write: written.is_some(),
+            cs: self.bank.get(level, Name::Cs),
+            rip: word_of(&self.bank, &self.levels, Name::Rip),
+            rflags: word_of(&self.bank, &self.levels, Name::Rflags),
+            name: name.number(),
+            value: written.unwrap_or(0),
+        })
+    }
+
+    /// What level 1 is told of an operation whose register it intercepts (TLFS, Register Intercept Messages).
+    pub fn hit_note_of(&self, op: &Op) -> Note
+        ensures { result ≡ hit_note (origin_of self.now) op.now }
+    {
+        match op {
+            Op::Set(name, value) => self.register_note(*name, Some(*value)),
+            Op::Get(name) => self.register_note(*name, None),
+            _ => self.register_note(Name::Rax, None),
+        }
+    }
+
+    /// An access was denied.
+    pub fn refused(&self, under: &mut Under, refusal: Refusal)
+        ensures { LeadsTo (origin_of self.now) under.old under.new
+            (refused_lem (origin_of self.now) refusal.gva (refusal_of refusal)
+            (done_by (origin_of self.now) (with_refusal under.old refusal))) }
+    {
+        under.refusal = refusal;
+        if !self.may_enter() {
+            under.leave(Decided::Denied(None));
+            return;
+        }
+        match self.message_page() {
+            Some(page) => {
+                let matter = Matter::Denial;
+                under.stage = Stage::Look { page, matter };
+            }
+            None => under.make(
+                nothing(self.assist_page(), BY_INTERRUPT),
+                Decided::Denied(None),
+            ),
+        }
+    }
+
+    /// The first word of the message slot was read: a note of level 0 is posted.
+    fn posted(&self, under: &mut Under, note: &Note, word: u64, decided: Decided)
+        ensures rest { rest_of (origin_of self.now) under.new
+            ≡ posts (origin_of self.now) note.now word (outcome_of (origin_of self.now) under.old decided) }
+        ensures is { DecidedIs (origin_of self.now) under.old decided → StageIs (origin_of self.now) under.new }
+        ensures op { under.new.op ≡ under.old.op }
+    {
+        let plan = self.posting(&mut under.output, note, word);
+        under.make(telling(plan, self.assist_page()), decided);
+    }
+
+    /// The first word of the message slot was read.
+    pub fn found(&self, under: &mut Under, matter: Matter, word: u64)
+        requires { MatterIs (origin_of self.now) matter }
+        ensures { LeadsTo (origin_of self.now) under.old under.new
+            (by_word (origin_of self.now) under.old matter word) }
+    {
+        match matter {
+            Matter::Denial => {
+                let note = self.note_of(&under.refusal);
+                self.posted(under, &note, word, Decided::Denied(Some(word)));
+            }
+            Matter::Hit => {
+                let note = self.hit_note_of(&under.op);
+                self.posted(under, &note, word, Decided::Hit(Some(word)));
+            }
+            Matter::Ending => {
+                let plan = self.sending(&mut under.output, word);
+                under.make(plan, Decided::Eom(Some(word)));
+            }
+        }
     }
 }

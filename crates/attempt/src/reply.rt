@@ -1,23 +1,67 @@
-// How a hypercall goes on by the reply to its request.
-ghost use Rattle.std.specs.Prelude.{◌≡◌, ◌+◌, ◌<◌, ◌≤◌, take, []};
+// What a processor asks of the partition, and how a hypercall goes on by the reply.
+ghost use Rattle.std.specs.Prelude.{◌≡◌, ◌≤◌, take, ◌+◌, ◌<◌, []};
 ghost use Rattle.vsm_core.specs.Hypercalls.{replied};
+ghost use Rattle.vsm_core.specs.Protection.{IsSlice};
 ghost use Rattle.vsm_core.specs.RegisterCalls.{slice_outcome, count_of, value_words};
 ghost use Rattle.vsm_core.specs.Reps.{replied_end};
 ghost use Rattle.vsm_core.specs.Tree.{Ends};
-ghost use Rattle.attempt.specs.Calls.{by_answer, looked_at, AskedIs};
-ghost use Rattle.attempt.specs.Rests.{rest_of, StageIs};
+ghost use Rattle.attempt.specs.Calls.{request_for, AskedIs, by_answer, looked_at};
+ghost use Rattle.attempt.specs.Rests.{rest_of, StageIs, LeadsTo};
 ghost use Rattle.attempt.specs.Views.{origin_of};
 
-use crate::decided::Decided;
-use crate::input::Asked;
+use crate::given::answered;
 use crate::plans::put_words;
-use crate::site::Site;
-use crate::stage::{Inner, Stage};
+use crate::stage::{Asked, Decided, Inner, Site, Stage};
 use crate::state::VpState;
-use crate::under::Under;
+use crate::under::{Under, front_of};
+use arrayvec::ArrayVec;
 use hyper_abi::ResultValue;
+use rep_frame::Look;
 use vsm_base::HvStatus;
-use vsm_core::Reply;
+use vsm_core::{PartCall, Reply, Request};
+
+/// The first words of a slice, so many.
+fn pages_of(words: &[u64; 32], length: u8) -> ArrayVec<u64, 8>
+    requires { length ≤ 8 }
+    ensures { result.items ≡ take length words.now }
+{
+    let mut pages = ArrayVec::from(front_of::<8>(words));
+    pages.truncate(usize::from(length));
+    pages
+}
+
+impl VpState {
+    /// The request of what is asked.
+    pub fn request(&self, under: &Under, asked: Asked) -> Request
+        requires { AskedIs (origin_of self.now) asked }
+        ensures request { result ≡ request_for (origin_of self.now) under.now asked }
+        ensures slice { IsSlice result.call }
+    {
+        let (start, count) = self.elements();
+        let call = match asked {
+            Asked::EnablePartition => PartCall::EnablePartition(front_of(&under.header)),
+            Asked::EnableVp => PartCall::EnableVp(front_of(&under.header)),
+            Asked::Start => PartCall::Start(front_of(&under.header)),
+            Asked::Modify { length } => PartCall::Modify {
+                header: front_of(&under.header),
+                pages: pages_of(&under.slice, length),
+                start,
+                total: count,
+            },
+            Asked::Flush => PartCall::Flush { total: count },
+            Asked::Write { value } => PartCall::WriteConfig(value),
+            Asked::Look { register, .. } => match register {
+                Look::Status => PartCall::ReadStatus,
+                Look::Config => PartCall::ReadConfig,
+            },
+        };
+        Request {
+            by: self.number,
+            level: self.levels.active(),
+            call,
+        }
+    }
+}
 
 /// The words of a value go to the front of an output.
 fn put_pair(output: &mut [u64; 16], value: u64)
@@ -31,26 +75,22 @@ impl VpState {
     /// A slice of pages is served: the call is refused at an element, goes on at one, or is complete.
     fn slice_served(&self, under: &mut Under, reply: &Reply)
         requires { reply.now.done < 4096 }
-        ensures rest { rest_of (origin_of self.now) under.new ≡ Ends (slice_outcome (origin_of self.now) self.now.state [] (replied_end reply.now.status reply.now.done (count_of (origin_of self.now)))) }
-        ensures is { StageIs (origin_of self.now) under.new }
-        ensures op { under.new.op ≡ under.old.op }
+        ensures { LeadsTo (origin_of self.now) under.old under.new
+            (Ends (slice_outcome (origin_of self.now) self.now.state []
+            (replied_end reply.now.status reply.now.done (count_of (origin_of self.now))))) }
     {
         let (_, count) = self.elements();
-        let status = reply.status;
-        let done = reply.done;
-        if status == HvStatus::SUCCESS && done < count {
-            under.end(Decided::Part(done));
+        if reply.status == HvStatus::SUCCESS && reply.done < count {
+            under.end(Decided::Part(reply.done));
         } else {
-            under.end(Decided::Replied(ResultValue { status, done }.bits()));
+            under.end(answered(reply.status, reply.done));
         }
     }
 
     /// The call is served: where it enables a level, the reply has that level's context.
     fn served(&self, under: &mut Under, reply: &Reply)
         requires { reply.now.done < 4096 }
-        ensures rest { rest_of (origin_of self.now) under.new ≡ Ends (replied (origin_of self.now) reply.now) }
-        ensures is { StageIs (origin_of self.now) under.new }
-        ensures op { under.new.op ≡ under.old.op }
+        ensures { LeadsTo (origin_of self.now) under.old under.new (Ends (replied (origin_of self.now) reply.now)) }
     {
         let status = reply.status;
         let done = reply.done;
@@ -68,18 +108,13 @@ impl VpState {
     fn put_value(&self, under: &mut Under, at: (Site, u16), reply: &Reply)
         requires done { reply.now.done < 4096 }
         requires room { at.1 + 2 ≤ 512 }
-        ensures rest { rest_of (origin_of self.now) under.new ≡ looked_at (origin_of self.now) at.0 at.1 reply.now }
-        ensures is { StageIs (origin_of self.now) under.new }
-        ensures op { under.new.op ≡ under.old.op }
+        ensures { LeadsTo (origin_of self.now) under.old under.new
+            (looked_at (origin_of self.now) at.0 at.1 reply.now) }
     {
         let (site, at) = at;
-        let status = reply.status;
-        let done = reply.done;
         put_pair(&mut under.output, reply.value);
-        under.make(
-            put_words(site.page, at, 2),
-            Decided::Replied(ResultValue { status, done }.bits()),
-        );
+        let decided = answered(reply.status, reply.done);
+        under.make(put_words(site.page, at, 2), decided);
         under.stage = Stage::Enter {
             inner: Inner::Output { site },
         };
@@ -94,13 +129,9 @@ impl VpState {
         ensures op { under.new.op ≡ under.old.op }
     {
         match asked {
-            Asked::EnablePartition => self.served(under, reply),
-            Asked::EnableVp => self.served(under, reply),
-            Asked::Start => self.served(under, reply),
             Asked::Modify { .. } => self.slice_served(under, reply),
-            Asked::Flush => self.served(under, reply),
-            Asked::Write { .. } => self.served(under, reply),
             Asked::Look { output, at, .. } => self.put_value(under, (output, at), reply),
+            _ => self.served(under, reply),
         }
     }
 }

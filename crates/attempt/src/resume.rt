@@ -1,27 +1,23 @@
 // One step of an attempt: what comes next, and what is done by the answer.
 ghost use Rattle.std.specs.Prelude.{◌≡◌};
-ghost use Rattle.vsm_core.specs.Attempt.{leaves};
+ghost use Rattle.vsm_core.specs.Attempt.{leaves, by_page_mask};
 ghost use Rattle.vsm_core.specs.Tree.{after, then_};
-ghost use Rattle.attempt.specs.Heads.{IsHeadOf, StandsAt};
 ghost use Rattle.attempt.specs.Asked.{word_step};
+ghost use Rattle.attempt.specs.Heads.{IsHeadOf, StandsAt};
 ghost use Rattle.attempt.specs.Nexts.{IsNext, IsAnswerTo};
-ghost use Rattle.attempt.specs.Plans.{PlanIs};
 ghost use Rattle.attempt.specs.Paths.{reached_rest, IsReached};
+ghost use Rattle.attempt.specs.Plans.{PlanIs};
+ghost use Rattle.attempt.specs.Rests.{behind_rest, gate_rest, inner_rest, made_rest, output_masked, rest_of, words_rest, BehindIs, InnerIs, IsHead, MakeIs, StageIs, LeadsTo};
 ghost use Rattle.attempt.specs.Results.{granted_of};
-ghost use Rattle.attempt.specs.Rests.{behind_rest, made_rest, rest_of, BehindIs, MakeIs, StageIs};
-ghost use Rattle.vsm_core.specs.Attempt.{by_page_mask};
 ghost use Rattle.attempt.specs.Views.{origin_of};
 
-use crate::decided::Decided;
+use crate::begin::word_at;
 use crate::path::mask_of;
 use crate::place::Reached;
-use crate::poll::word_at;
-use crate::refusal::Refusal;
-use crate::stage::{Gate, Next, Stage};
+use crate::stage::{Behind, Decided, Gate, Inner, Next, Refusal, Site, Stage, Step};
 use crate::state::VpState;
-use crate::step::Step;
 use crate::under::Under;
-use vsm_base::{Access, Mask, VpIndex};
+use vsm_base::{Access, Mask, VpIndex, Vtl};
 use vsm_core::PendingWord;
 
 /// The places in the assist page of what a return makes RAX and RCX (TLFS, Virtual Processor Assist Page, VTL control).
@@ -75,9 +71,9 @@ impl VpState {
     /// Where an answer has led an access.
     fn reached(&self, under: &mut Under, reached: Reached)
         requires { IsReached under.old.path reached }
-        ensures rest { rest_of (origin_of self.now) under.new ≡ then_ (reached_rest under.old.path reached) (leaves (origin_of self.now) under.old.path.aim.gva.0 (granted_of self.now.state under.old.op)) }
-        ensures is { StageIs (origin_of self.now) under.new }
-        ensures op { under.new.op ≡ under.old.op }
+        ensures { LeadsTo (origin_of self.now) under.old under.new
+            (then_ (reached_rest under.old.path reached)
+            (leaves (origin_of self.now) under.old.path.aim.gva.0 (granted_of self.now.state under.old.op))) }
     {
         match reached {
             Reached::On => under.stage = Stage::Access,
@@ -90,9 +86,9 @@ impl VpState {
     /// The mask of a hypercall's page is known.
     fn masked(&self, under: &mut Under, gate: Gate, mask: Mask)
         requires { BehindIs (origin_of self.now) under.old gate.behind }
-        ensures rest { rest_of (origin_of self.now) under.new ≡ by_page_mask (origin_of self.now) gate.access gate.site.address gate.generation (behind_rest (origin_of self.now) under.old gate.behind gate.generation) mask }
-        ensures is { StageIs (origin_of self.now) under.new }
-        ensures op { under.new.op ≡ under.old.op }
+        ensures { LeadsTo (origin_of self.now) under.old under.new
+            (by_page_mask (origin_of self.now) gate.access gate.site.address gate.generation
+            (behind_rest (origin_of self.now) under.old gate.behind gate.generation) mask) }
     {
         if mask.allows(gate.access) {
             self.behind(under, gate.behind, gate.generation);
@@ -113,9 +109,8 @@ impl VpState {
     /// A planned step was made or, where none was left, the leave.
     fn made(&self, under: &mut Under)
         requires { MakeIs (origin_of self.now) under.old }
-        ensures rest { rest_of (origin_of self.now) under.new ≡ after (made_rest (origin_of self.now) under.old) 0 }
-        ensures is { StageIs (origin_of self.now) under.new }
-        ensures op { under.new.op ≡ under.old.op }
+        ensures { LeadsTo (origin_of self.now) under.old under.new
+            (after (made_rest (origin_of self.now) under.old) 0) }
     {
         match under.plan.popped(self.number, &under.output) {
             Some(_) => under.stage = Stage::Make,
@@ -160,6 +155,88 @@ impl VpState {
             Stage::Quit { sending } => under.stage = Stage::Send { sending },
             Stage::Send { sending } => self.sent(under, sending),
             Stage::End => unreachable!(),
+        }
+    }
+}
+
+impl VpState {
+    /// The mask of the output's page comes next at level 0, where there is an output.
+    fn output(&self, under: &mut Under, generation: u64)
+        requires { IsHead (origin_of self.now) under.old }
+        ensures { LeadsTo (origin_of self.now) under.old under.new
+            (output_masked (origin_of self.now) under.old.head.output generation
+            (words_rest (origin_of self.now) under.old)) }
+    {
+        let Some(site) = under.head.output else {
+            self.words(under);
+            return;
+        };
+        match self.levels.active() {
+            Vtl::Zero => {
+                let gate = Gate {
+                    site,
+                    access: Access::Write,
+                    generation,
+                    behind: Behind::Words,
+                };
+                under.stage = Stage::Mask { gate };
+            }
+            Vtl::One => self.words(under),
+        }
+    }
+
+    /// What comes once a mask has allowed it.
+    pub fn behind(&self, under: &mut Under, behind: Behind, generation: u64)
+        requires { BehindIs (origin_of self.now) under.old behind }
+        ensures { LeadsTo (origin_of self.now) under.old under.new
+            (behind_rest (origin_of self.now) under.old behind generation) }
+    {
+        match behind {
+            Behind::Input => self.output(under, generation),
+            Behind::Words => self.words(under),
+            Behind::Make => under.stage = Stage::Make,
+        }
+    }
+
+    /// What comes behind the mask of a hypercall's page at level 0; none binds level 1.
+    fn gated(&self, under: &mut Under, gate: Gate)
+        requires { BehindIs (origin_of self.now) under.old gate.behind }
+        ensures { LeadsTo (origin_of self.now) under.old under.new (gate_rest (origin_of self.now) under.old gate) }
+    {
+        match self.levels.active() {
+            Vtl::Zero => under.stage = Stage::Mask { gate },
+            Vtl::One => self.behind(under, gate.behind, gate.generation),
+        }
+    }
+
+    /// The generation is checked.
+    pub fn opened(&self, under: &mut Under, inner: Inner, generation: u64)
+        requires { InnerIs (origin_of self.now) under.old inner }
+        ensures { LeadsTo (origin_of self.now) under.old under.new
+            (inner_rest (origin_of self.now) under.old inner generation) }
+    {
+        match inner {
+            Inner::Look { page, matter } => under.stage = Stage::Look { page, matter },
+            Inner::Make => under.stage = Stage::Make,
+            Inner::Restore { page } => under.stage = Stage::Rax { page },
+            Inner::Input => {
+                let gate = Gate {
+                    site: under.head.site,
+                    access: Access::Read,
+                    generation,
+                    behind: Behind::Input,
+                };
+                self.gated(under, gate);
+            }
+            Inner::Output { site } => {
+                let gate = Gate {
+                    site,
+                    access: Access::Write,
+                    generation,
+                    behind: Behind::Make,
+                };
+                self.gated(under, gate);
+            }
         }
     }
 }

@@ -1,16 +1,10 @@
 // An attempt that is under way.
-ghost use Rattle.std.specs.Prelude.{◌≡◌};
+ghost use Rattle.std.specs.Prelude.{◌≡◌, ◌≤◌, take};
 ghost use Rattle.attempt.specs.Unders.{departing, ended, left, made_by};
 
-use crate::aim::Aim;
-use crate::decided::Decided;
-use crate::input::{Asked, Head};
-use crate::place::{Fill, Path, Place};
-use crate::plan::Plan;
+use crate::place::{Aim, Fill, Path, Place};
 use crate::plans::nothing;
-use crate::refusal::Refusal;
-use crate::site::Site;
-use crate::stage::Stage;
+use crate::stage::{Asked, Decided, Head, Plan, Refusal, Site, Stage};
 use hyper_abi::Call;
 use page_walk::Translation;
 use vsm_base::{Access, Gva, Mask, Page, Vtl};
@@ -33,6 +27,16 @@ pub struct Under {
     pub slice: [u64; 32],
     pub taken: [u64; 8],
     pub output: [u64; 16],
+}
+
+/// The first words of those that were read.
+pub fn front_of<const N: usize>(words: &[u64; 32]) -> [u64; N]
+    requires { N ≤ 32 }
+    ensures { result ≡ take N words.now }
+{
+    let mut front = [0; N];
+    front.copy_from_slice(&words[..N]);
+    front
 }
 
 /// An access of which nothing is known.

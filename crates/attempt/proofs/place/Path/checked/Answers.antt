@@ -9,5 +9,7 @@ pub returns-in-Ok-clause-rest : goal.returns-in-Ok-clause-rest
 returns-in-Ok-clause-rest c =
     let aim = c.args.self.now.aim in
     let on : is_paging aim.cr0 ≡ true = search rules in
-    let stands : Stands c.in-Ok.walk (query_of (goal_of aim)) [] = record { paging = on; canonical = search rules; at = search rules; few = omega arith; present = refl } in
-    c.at_walk.ensures.rest _ (tables 3 (goal_of aim) c.args.generation) (c.first-page.ensures.wanted _ stands, stands) (λ few. refl)
+    let stands : Stands c.in-Ok.walk (query_of (goal_of aim)) [] =
+    record { paging = on; canonical = search rules; at = search rules; few = omega arith; present = refl } in
+    c.at_walk.ensures.rest _ (tables 3 (goal_of aim) c.args.generation) (c.first-page.ensures.wanted _ stands, stands)
+    (λ few. refl)

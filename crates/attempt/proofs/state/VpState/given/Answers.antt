@@ -1,4 +1,4 @@
-use Rattle.std.proofs.Common.{◌≡◌, take, refl, sym, subst}
+use Rattle.std.proofs.Common.{◌≡◌, take, refl, sym, subst, rules}
 use Rattle.vsm_core.specs.Attempt.{by_input}
 use Rattle.vsm_core.specs.Outcomes.{Origin}
 use Rattle.hyper_abi.specs.Told.{row_for}
@@ -8,14 +8,26 @@ use Rattle.attempt.specs.Rests.{rest_of}
 use Rattle.attempt.specs.Views.{origin_of}
 use Rattle.attempt.proofs.state.VpState.given.Goals as goal
 
-pub returns-in-EnableVpVtl-clause-rest : goal.returns-in-EnableVpVtl-clause-rest
-returns-in-EnableVpVtl-clause-rest c =
+pub returns-in-EnableVpVtl : goal.returns-in-EnableVpVtl
+returns-in-EnableVpVtl c =
     let from : Origin = origin_of c.args.self.now in
     let old : Under = c.args.under.now in
-    subst (λ (u : Under). rest_of from u ≡ by_input from (row_for old.head.call).code (header_of old) (take c.args.length old.slice)) (sym c.depart-in-EnableVpVtl.ensures) (rw c.in-EnableVpVtl.is refl)
+    record {
+      rest = subst (λ (u : Under). rest_of from u
+          ≡ by_input from (row_for old.head.call).code (header_of old) (take c.args.length old.slice))
+          (sym c.depart-in-EnableVpVtl.ensures) (rw c.in-EnableVpVtl.is refl);
+      is = search rules;
+      op = search rules;
+    }
 
-pub returns-in-StartVirtualProcessor-clause-rest : goal.returns-in-StartVirtualProcessor-clause-rest
-returns-in-StartVirtualProcessor-clause-rest c =
+pub returns-in-StartVirtualProcessor : goal.returns-in-StartVirtualProcessor
+returns-in-StartVirtualProcessor c =
     let from : Origin = origin_of c.args.self.now in
     let old : Under = c.args.under.now in
-    subst (λ (u : Under). rest_of from u ≡ by_input from (row_for old.head.call).code (header_of old) (take c.args.length old.slice)) (sym c.depart-in-StartVirtualProcessor.ensures) (rw c.in-StartVirtualProcessor.is refl)
+    record {
+      rest = subst (λ (u : Under). rest_of from u
+          ≡ by_input from (row_for old.head.call).code (header_of old) (take c.args.length old.slice))
+          (sym c.depart-in-StartVirtualProcessor.ensures) (rw c.in-StartVirtualProcessor.is refl);
+      is = search rules;
+      op = search rules;
+    }

@@ -5,7 +5,7 @@ use Rattle.vsm_core.specs.Attempt.{leaves, polled}
 use Rattle.vsm_core.specs.Controllers.{vector_words}
 use Rattle.vsm_core.specs.Outcomes.{Origin}
 use Rattle.vsm_core.specs.Tree.{Tree, after, takes, then_}
-use Rattle.attempt.specs.declared.aim.Aim.{Aim}
+use Rattle.attempt.specs.declared.place.Aim.{Aim}
 use Rattle.attempt.specs.declared.place.Path.{Path}
 use Rattle.attempt.specs.declared.stage.Stage.{Stage}
 use Rattle.attempt.specs.declared.under.Under.{Under}
@@ -26,9 +26,11 @@ returns-in-Access-clause-rest c =
     let path : Path = u.path in
     let r = c.resume-reached in
     c.reached.ensures.rest
-    ∙ ap (λ (aim : Aim). then_ (reached_rest r.new.self r.result) (leaves from aim.gva.0 (granted_of from.state u.op))) r.ensures.aim
+    ∙ ap (λ (aim : Aim). then_ (reached_rest r.new.self r.result)
+    (leaves from aim.gva.0 (granted_of from.state u.op))) r.ensures.aim
     ∙ ap (λ (t : Tree Decision). then_ t (leaves from path.aim.gva.0 (granted_of from.state u.op))) r.ensures.rest
-    ∙ sym (after-then (path_rest path) (leaves from path.aim.gva.0 (granted_of from.state u.op)) c.args.answer (path-asks path))
+    ∙ sym (after-then (path_rest path) (leaves from path.aim.gva.0 (granted_of from.state u.op)) c.args.answer
+    (path-asks path))
     ∙ ap (λ (s : Stage). after (stage_rest from u s) c.args.answer) (sym c.in-Access.is)
 
 pub returns-in-Make-clause-rest : goal.returns-in-Make-clause-rest
@@ -47,6 +49,7 @@ returns-in-Take-clause-rest c =
     let low : count < 8 = rw c.in-Take.is at c.requires.is in
     let next = next-taken count low in
     c.taken.ensures.rest
-    ∙ ap (λ (found : List ℕ). takes (drop (count + 1) vector_words) found (polled from)) (take_more_set u.taken count c.args.answer (search rules))
+    ∙ ap (λ (found : List ℕ). takes (drop (count + 1) vector_words) found (polled from))
+    (take_more_set u.taken count c.args.answer (search rules))
     ∙ sym (ap (λ words. after (takes words (take count u.taken) (polled from)) c.args.answer) next)
     ∙ ap (λ (s : Stage). after (stage_rest from u s) c.args.answer) (sym c.in-Take.is)

@@ -11,13 +11,21 @@ use Rattle.attempt.specs.Results.{reply_outcome}
 use Rattle.attempt.specs.Views.{origin_of}
 use Rattle.attempt.proofs.state.VpState.served.Goals as goal
 
-pub returns-in-Some-clause-rest : goal.returns-in-Some-clause-rest
-returns-in-Some-clause-rest c =
+pub returns-in-Some : goal.returns-in-Some
+returns-in-Some c =
     let from : Origin = origin_of c.args.self.now in
     let reply = c.args.reply.now in
     let context = c.in-Some.context in
     let long : length c.copy_from_slice.new.self ≡ 28 = search rules in
-    subst (λ (u : Under). rest_of from u ≡ Ends (replied from reply)) (sym c.end.ensures)
-    (ap (λ (w : List ℕ). Ends (reply_outcome from (with_context from.state (Some (context.0, w))) c.bits-value.result)) (take_at c.copy_from_slice.new.self _ 28 long ∙ c.copy_from_slice.ensures.after)
-    ∙ ap (λ v. Ends (reply_outcome from (with_context from.state (Some (context.0, context.1))) v)) c.bits-value.ensures.value
-    ∙ ap (λ (x : Option (Vtl × List ℕ × Option (List ℕ))). Ends (replied_with from reply.status reply.done (own_context x))) (sym c.in-Some.is))
+    record {
+      rest = subst (λ (u : Under). rest_of from u ≡ Ends (replied from reply)) (sym c.end.ensures)
+          (ap (λ (w : List ℕ). Ends (reply_outcome from
+          (with_context from.state (Some (context.0, w))) c.bits-value.result))
+          (take_at c.copy_from_slice.new.self _ 28 long ∙ c.copy_from_slice.ensures.after)
+          ∙ ap (λ v. Ends (reply_outcome from (with_context from.state (Some (context.0, context.1))) v))
+          c.bits-value.ensures.value
+          ∙ ap (λ (x : Option (Vtl × List ℕ × Option (List ℕ))). Ends
+          (replied_with from reply.status reply.done (own_context x))) (sym c.in-Some.is));
+      is = search rules;
+      op = search rules;
+    }
