@@ -25,9 +25,9 @@ use Rattle.vsm_core.specs.Switch.{may_call, may_return, may_enter, called, retur
 use Rattle.vsm_core.specs.Tree.{Tree, Ends, followed, follow}
 use Rattle.rep_frame.specs.Frames.{frame_of}
 use Rattle.rep_frame.specs.Slices.{end_of, setting_refusals}
-use Rattle.attempt.specs.declared.decided.Decided.{Decided}
-use Rattle.attempt.specs.declared.decided.Decided.TheVariants as by
-use Rattle.attempt.specs.declared.refusal.Refusal.{Refusal}
+use Rattle.attempt.specs.declared.stage.Decided.{Decided}
+use Rattle.attempt.specs.declared.stage.Decided.TheVariants as by
+use Rattle.attempt.specs.declared.stage.Refusal.{Refusal}
 use Rattle.attempt.specs.declared.under.Under.{Under}
 use Rattle.attempt.specs.Paths.{fill_of, grant_of}
 use Rattle.attempt.specs.Results.{access_outcome, again_by, denied_or_held, done_by, granted_of, hit_note, hit_or_held, local_outcome, outcome_of, polled_outcome, refusal_of, result_of, switched}

@@ -21,8 +21,8 @@ use Rattle.vsm_core.specs.Tree.{Tree, Ends, Asks, Wants, WordStep, after, Counts
 use Rattle.vsm_core.proofs.Bounds.{followed-append, Counts-asks, Counts-most, attempt-counts, most_steps-few}
 use Rattle.vsm_core.proofs.Soundness.{attempt-sound}
 use Rattle.attempt.specs.declared.stage.Next.TheVariants.{Ask, Want, End}
-use Rattle.attempt.specs.declared.input.Asked.{Asked}
-use Rattle.attempt.specs.declared.step.Step.{Step}
+use Rattle.attempt.specs.declared.stage.Asked.{Asked}
+use Rattle.attempt.specs.declared.stage.Step.{Step}
 use Rattle.attempt.specs.declared.under.Under.{Under}
 use Rattle.attempt.specs.Asked.{IsAnswer, word_step}
 use Rattle.attempt.specs.Calls.{request_for}
