@@ -1,5 +1,5 @@
 -- What comes next of a tree.
-use Rattle.std.specs.Prelude.{◌≡◌}
+use Rattle.std.specs.Prelude.{◌≡◌, Bool, true, false}
 use Rattle.vsm_core.specs.Outcomes.{Origin, Outcome}
 use Rattle.vsm_core.specs.Tree.{Tree, Ends, Asks, Wants}
 use Rattle.attempt.specs.declared.stage.Next.{Next}
@@ -23,3 +23,10 @@ abbrev pub StandsAt : Next → Stage → Type 0
 StandsAt (Ask step) stage = Unit {0}
 StandsAt (Want asked) stage = stage ≡ stages.Want asked
 StandsAt End stage = stage ≡ stages.End
+
+-- whether the tree goes on: it asks something, or has come to the end that was decided
+abbrev pub GoesOn : Origin → Under → Tree Outcome → Bool → Type 0
+GoesOn from u (Asks s k) true = Unit {0}
+GoesOn from u (Wants q k) true = Unit {0}
+GoesOn from u (Ends o) false = o ≡ result_of from u
+GoesOn from u _ _ = ⊥

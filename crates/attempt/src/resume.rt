@@ -1,9 +1,9 @@
 // One step of an attempt: what comes next, and what is done by the answer.
-ghost use Rattle.std.specs.Prelude.{◌≡◌};
+ghost use Rattle.std.specs.Prelude.{◌≡◌, false};
 ghost use Rattle.vsm_core.specs.Attempt.{leaves, by_page_mask};
 ghost use Rattle.vsm_core.specs.Tree.{after, then_};
 ghost use Rattle.attempt.specs.Asked.{word_step};
-ghost use Rattle.attempt.specs.Heads.{IsHeadOf, StandsAt};
+ghost use Rattle.attempt.specs.Heads.{GoesOn, IsHeadOf, StandsAt};
 ghost use Rattle.attempt.specs.Nexts.{IsNext, IsAnswerTo};
 ghost use Rattle.attempt.specs.Paths.{reached_rest, IsReached};
 ghost use Rattle.attempt.specs.Plans.{PlanIs};
@@ -65,6 +65,18 @@ impl VpState {
             Stage::Quit { .. } => Next::Ask(Step::Leave),
             Stage::Send { sending } => Next::Ask(sending.next_post()),
             Stage::End => Next::End,
+        }
+    }
+
+    /// Whether an attempt goes on: it has a step left, or something to ask.
+    pub fn goes_on(&self, under: &Under) -> bool
+        requires { StageIs (origin_of self.now) under.now }
+        ensures goes { GoesOn (origin_of self.now) under.now (rest_of (origin_of self.now) under.now) result }
+        ensures end { result ≡ false → under.now.stage ≡ Stage.End }
+    {
+        match under.stage {
+            Stage::End => false,
+            _ => true,
         }
     }
 

@@ -16,6 +16,7 @@ use Rattle.vsm_core.specs.Tree.{Ends}
 use Rattle.attempt.specs.declared.stage.Stage.TheVariants as stages
 use Rattle.attempt.specs.declared.under.Under.{Under}
 use Rattle.attempt.specs.Comings.{Comes}
+use Rattle.attempt.specs.Heads.{GoesOn}
 use Rattle.attempt.specs.Rests.{DecidedIs, IsAt, StageIs, rest_of as stage_left}
 use Rattle.attempt.specs.Results.{again_by, result_of}
 use Rattle.attempt.specs.Views.{VpView, origin_of}
@@ -29,7 +30,7 @@ use Rattle.cpu.specs.UnderWay.{IsUnderWay, Means, led_to, op_of}
 use Rattle.cpu.proofs.Ends.{came-marked, filled_of, result-again, result-stays, spin-anew}
 use Rattle.cpu.proofs.Replies.{heard-again}
 use Rattle.cpu.proofs.Tidy.{tidy-end}
-use Rattle.cpu.proofs.Turning.{again-few}
+use Rattle.cpu.proofs.Turning.{again-few, over-on}
 
 pub acting-on : (b : Bool) (u : Under) → op_of b u ≢ None → b ≡ true
 acting-on true u some = refl
@@ -50,8 +51,14 @@ pub record IsAtEnd (i : Inside) : Type 0 where
   pub way : Way i
   pub ends : led_to (origin_of i.state) i.under.op i.heard i.log.seen.0 i.log.first ≡ Ends (result_of (origin_of i.state) i.under)
 
-pub at-end : (i : Inside) → i.acting ≡ true → Way i → stage_left (origin_of i.state) i.under ≡ Ends (result_of (origin_of i.state) i.under) → IsAtEnd i
+at-end : (i : Inside) → i.acting ≡ true → Way i → stage_left (origin_of i.state) i.under ≡ Ends (result_of (origin_of i.state) i.under) → IsAtEnd i
 at-end i acting way ends = record { acting = acting; way = way; ends = sym way.rest ∙ ends }
+
+pub end-on : (i : Inside) (b : Bool) → IsSound i → i.started ≡ true → op_of i.acting i.under ≢ None
+    → GoesOn (origin_of i.state) i.under (stage_left (origin_of i.state) i.under) b → b ≡ false → IsAtEnd i
+end-on i b sound started some h e =
+    let acting : i.acting ≡ true = acting-on i.acting i.under some in
+    at-end i acting (way-of i sound started acting) (over-on (origin_of i.state) i.under _ b h e)
 
 -- what is left of it
 pub left-so : (i : Inside) → i.acting ≡ true → rest_of (view_of i) (view_of i).op ≡ led_to (origin_of i.state) i.under.op i.heard i.log.seen.0 i.log.first

@@ -26,7 +26,7 @@ use Rattle.attempt.specs.declared.stage.Step.{Step}
 use Rattle.attempt.specs.declared.under.Under.{Under}
 use Rattle.attempt.specs.Asked.{IsAnswer, word_step}
 use Rattle.attempt.specs.Calls.{request_for}
-use Rattle.attempt.specs.Heads.{IsHeadOf}
+use Rattle.attempt.specs.Heads.{GoesOn, IsHeadOf}
 use Rattle.attempt.specs.Nexts.{IsAnswerTo}
 use Rattle.attempt.specs.Rests.{StageIs, rest_of as stage_left}
 use Rattle.attempt.specs.Results.{result_of}
@@ -234,11 +234,21 @@ abbrev pub IsOpen : Tree Outcome → Type 0
 IsOpen (Ends o) = ⊥
 IsOpen _ = Unit {0}
 
-pub asks-open : (t : Tree Outcome) (s : WordStep) → StepsOn t s → IsOpen t
-asks-open t s on = rw on.is tt
+pub open-on : (from : Origin) (u : Under) (t : Tree Outcome) (b : Bool) → GoesOn from u t b → b ≡ true → IsOpen t
+open-on from u (Asks s k) b h e = tt
+open-on from u (Wants q k) b h e = tt
+open-on from u (Ends o) true h e = absurd h
+open-on from u (Ends o) false h e = cc
 
-pub wants-open : (from : Origin) (u : Under) (t : Tree Outcome) (asked : Asked) → WantsOn from u t asked → IsOpen t
-wants-open from u t asked on = rw on.is tt
+-- and one that has
+pub over-on : (from : Origin) (u : Under) (t : Tree Outcome) (b : Bool) → GoesOn from u t b → b ≡ false
+    → t ≡ Ends (result_of from u)
+over-on from u (Asks s k) true h e = cc
+over-on from u (Asks s k) false h e = absurd h
+over-on from u (Wants q k) true h e = cc
+over-on from u (Wants q k) false h e = absurd h
+over-on from u (Ends o) true h e = absurd h
+over-on from u (Ends o) false h e = ap Ends h
 
 pub settled-stays : (tree : Tree Outcome) (v : Vp) → IsOpen tree → v ≡ settled tree v
 settled-stays (Ends o) v open_ = absurd open_

@@ -149,24 +149,22 @@ impl Cpu {
         ensures owes { self.new.owes ≡ false }
         ensures within { length self.new.marks ≤ self.old.limits.budget }
     {
-        match self.state.next(&self.under) {
-            Next::Ask(_) => Pace::Moved,
-            Next::Want(_) => Pace::Moved,
-            Next::End => match self.under.again() {
-                Some(grant) => self.mark_again(grant),
-                None => {
-                    let turn = leave_mark(
-                        &mut self.state,
-                        &mut self.log,
-                        &self.under,
-                        &self.lengths,
-                    );
-                    self.acting = false;
-                    self.heard = None;
-                    turn
-                }
-            },
+        let goes_on = self.state.goes_on(&self.under);
+        if goes_on {
+            return Pace::Moved;
         }
+        if let Some(grant) = self.under.again() {
+            return self.mark_again(grant);
+        }
+        let pace = leave_mark(
+            &mut self.state,
+            &mut self.log,
+            &self.under,
+            &self.lengths,
+        );
+        self.acting = false;
+        self.heard = None;
+        pace
     }
 
     /// Makes the next step of a processor that has started, or the end of an attempt that has no step left.
