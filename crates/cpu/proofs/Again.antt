@@ -1,10 +1,10 @@
 -- A spin in vain keeps its operation.
-use Rattle.std.proofs.Common.{◌≡◌, ◌≢◌, ◌∙◌, Bool, true, false, Option, Some, None, List, [], length, drop, refl, sym, ap, subst}
+use Rattle.std.proofs.Common.{◌≡◌, ◌≢◌, ◌∙◌, Bool, true, false, Option, Some, None, List, [], length, drop, refl, sym, ap}
 use Rattle.vsm_core.specs.declared.event.Event.{Event}
 use Rattle.vsm_core.specs.declared.mark.Grant.{Grant}
 use Rattle.vsm_core.specs.declared.mark.What.TheVariants as whats
 use Rattle.vsm_core.specs.Attempt.{attempt}
-use Rattle.vsm_core.specs.Outcomes.{Origin, Outcome}
+use Rattle.vsm_core.specs.Outcomes.{Origin}
 use Rattle.vsm_core.specs.Tree.{Ends}
 use Rattle.attempt.specs.declared.under.Under.{Under}
 use Rattle.attempt.specs.Rests.{rest_of as stage_left}

@@ -15,14 +15,14 @@ use Rattle.vsm_core.specs.Access.{Goal, start_fault}
 use Rattle.vsm_core.specs.Attempt.{attempt, begun, goal_of, is_wanted, wanted_outcome, unwanted_outcome}
 use Rattle.vsm_core.specs.Controllers.{Controllers, eom_by, waiting_then, with_taken}
 use Rattle.vsm_core.specs.Fills.{Cached}
-use Rattle.vsm_core.specs.Outcomes.{Origin, Outcome, outcome_at, faulted, plain, spun, passed, empties, fills, note_of, denied_outcome, held_outcome, hit_outcome, eom_outcome}
+use Rattle.vsm_core.specs.Outcomes.{Origin, Outcome, outcome_at, faulted, plain, spun, empties, fills, note_of, denied_outcome, held_outcome, hit_outcome, eom_outcome}
 use Rattle.vsm_core.specs.Processor.{Vp, came_to, marked}
 use Rattle.vsm_core.specs.RegisterCalls.{count_of, slice_outcome, start_of}
 use Rattle.vsm_core.specs.Registers.{is_legal}
 use Rattle.vsm_core.specs.Reps.{RepEnd, Refused as ByElement, GoesOn, Complete}
 use Rattle.vsm_core.specs.State.{State, gone_on, may_name, get, put}
 use Rattle.vsm_core.specs.Switch.{may_call, may_return, may_enter, called, returned, is_zero}
-use Rattle.vsm_core.specs.Tree.{Tree, Ends, followed, follow}
+use Rattle.vsm_core.specs.Tree.{Ends, followed, follow}
 use Rattle.rep_frame.specs.Frames.{frame_of}
 use Rattle.rep_frame.specs.Slices.{end_of, setting_refusals}
 use Rattle.attempt.specs.declared.stage.Decided.{Decided}

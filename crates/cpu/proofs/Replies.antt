@@ -1,9 +1,8 @@
 -- The reply that an attempt has had.
-use Rattle.std.proofs.Common.{◌≡◌, ◌≢◌, ◌∙◌, ◌-◌, ◌≤◌, ℕ, suc, List, length, drop, reverse, Option, Some, None, IfSome, refl, ap, sym, subst, arith, Bool, false, length-drop}
+use Rattle.std.proofs.Common.{◌≡◌, ◌≢◌, ◌∙◌, ◌-◌, ◌≤◌, ℕ, suc, List, length, drop, reverse, Option, Some, None, IfSome, refl, ap, sym, subst, arith, length-drop}
 use Rattle.std.proofs.lemmas.List.{length-map, take_all}
 use Rattle.vsm_base.specs.declared.places.Limits.{Limits}
 use Rattle.vsm_core.specs.declared.event.Event.{Event}
-use Rattle.vsm_core.specs.declared.mark.Ending.{Ending}
 use Rattle.vsm_core.specs.declared.mark.Grant.{Grant}
 use Rattle.vsm_core.specs.declared.mark.What.{What}
 use Rattle.vsm_core.specs.declared.mark.What.TheVariants.{Again}
@@ -24,7 +23,7 @@ use Rattle.attempt.specs.declared.under.Under.{Under}
 use Rattle.attempt.specs.Rests.{StageIs, rest_of as stage_left}
 use Rattle.attempt.specs.Views.{VpView, origin_of}
 use Rattle.cpu.specs.declared.cpu_turn.CpuTurn.{CpuTurn}
-use Rattle.cpu.specs.Turns.{AcceptsBy, OwesBy, answer_at, after_mark}
+use Rattle.cpu.specs.Turns.{AcceptsBy, answer_at}
 use Rattle.cpu.specs.UnderWay.{IsHeard, IsLate, IsTidy, IsUnderWay, led_to}
 use Rattle.cpu.proofs.Lists.{drop-length}
 use Rattle.cpu.proofs.Tidy.{tidy-reply}
@@ -115,13 +114,3 @@ pub accepted-by : (v v1 n : Vp) (reply : Reply) (q : Request) (k : Reply → Tre
 accepted-by v v1 n reply q k turn e quiet same en et =
     let left : rest_of (answered reply v) v.op ≡ k reply = reply-led _ v.heard v.seen v.first reply quiet ∙ ap (λ tree. by_reply tree reply) e in
     rw e (rw (same, left) at en, rw (same, left) at et)
-
--- a processor that has settled waits for no reply
-pub answer-owes : (tree : Tree Outcome) (ended : Option Ending) (owes : Bool) → OwesBy (answer_at tree ended) owes → owes ≡ false
-answer-owes (Ends o) ended owes h = mark-owes o.what ended owes h where
-  mark-owes : (what : What) (ending : Option Ending) (b : Bool) → OwesBy (after_mark what ending) b → b ≡ false
-  mark-owes what (Some ending) b is = is
-  mark-owes (Again grant) None b is = is
-  mark-owes _ None b is = is
-answer-owes (Asks s k) ended owes h = h
-answer-owes (Wants q k) ended owes h = h

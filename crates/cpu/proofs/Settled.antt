@@ -1,5 +1,5 @@
 -- A processor whose attempt has come to its end.
-use Rattle.std.proofs.Common.{◌≡◌, ◌≢◌, ◌∙◌, ◌+◌, ◌-◌, ◌*◌, ◌<◌, ◌≤◌, ℕ, Bool, true, false, cond, List, [], ◌∷◌, ◌++◌, length, drop, refl, sym, ap, subst, arith, Option, Some, None, length-append, length-drop, inr}
+use Rattle.std.proofs.Common.{◌≡◌, ◌≢◌, ◌∙◌, ◌+◌, ◌-◌, ◌*◌, ◌<◌, ◌≤◌, ℕ, Bool, true, false, cond, [], ◌∷◌, ◌++◌, length, drop, refl, sym, ap, subst, arith, Option, Some, None, length-append, length-drop}
 use Rattle.std.proofs.lemmas.Bool.Decides.{nat_tests}
 use Rattle.std.specs.Prelude.{nat_lt}
 use Rattle.vsm_base.specs.declared.places.Limits.{Limits}
@@ -10,7 +10,7 @@ use Rattle.vsm_core.specs.declared.mark.What.{What}
 use Rattle.vsm_core.specs.declared.mark.What.TheVariants as whats
 use Rattle.vsm_core.specs.Attempt.{most_steps_of}
 use Rattle.vsm_core.specs.Outcomes.{Origin, Outcome, outcome_at}
-use Rattle.vsm_core.specs.Processor.{Vp, answers_of, marked, or_else, ran_out, rest_of, settled, spin_limit, spun_out, stopped_by}
+use Rattle.vsm_core.specs.Processor.{answers_of, marked, or_else, ran_out, rest_of, settled, spun_out, stopped_by}
 use Rattle.vsm_core.specs.State.{rip_of}
 use Rattle.vsm_core.specs.Tree.{Ends}
 use Rattle.attempt.specs.declared.stage.Stage.TheVariants as stages
@@ -20,11 +20,10 @@ use Rattle.attempt.specs.Heads.{GoesOn}
 use Rattle.attempt.specs.Rests.{DecidedIs, IsAt, StageIs, rest_of as stage_left}
 use Rattle.attempt.specs.Results.{again_by, result_of}
 use Rattle.attempt.specs.Views.{VpView, origin_of}
-use Rattle.cpu.specs.declared.lengths.Lengths.{Lengths}
 use Rattle.cpu.specs.declared.log.Log.{Log}
 use Rattle.cpu.specs.declared.processor.Cpu.TheInside.{Inside}
 use Rattle.cpu.specs.Ends.{SpinsInVain}
-use Rattle.cpu.specs.Marks.{ending_of, log_marked}
+use Rattle.cpu.specs.Marks.{log_marked}
 use Rattle.cpu.specs.Sound.{IsSound, length_at, view_of}
 use Rattle.cpu.specs.UnderWay.{IsUnderWay, Means, led_to, op_of}
 use Rattle.cpu.proofs.Ends.{came-marked, filled_of, result-again, result-stays, spin-anew}

@@ -1,5 +1,5 @@
 -- A turn, by what its step did.
-use Rattle.std.proofs.Common.{◌≡◌, ◌≢◌, ◌∙◌, ◌+◌, ◌≤◌, ◌<◌, ℕ, suc, Bool, true, false, List, [], ◌∷◌, ◌++◌, length, drop, reverse, refl, sym, ap, subst, arith, Option, Some, None, IfSome, length-append, length-drop}
+use Rattle.std.proofs.Common.{◌≡◌, ◌∙◌, ◌+◌, ◌≤◌, ◌<◌, ℕ, suc, Bool, true, false, List, [], ◌∷◌, ◌++◌, length, drop, reverse, refl, sym, ap, subst, arith, Option, Some, None, length-append, length-drop}
 use Rattle.std.proofs.lemmas.List.{length-map, reverse-append}
 use Rattle.vsm_base.specs.declared.places.Limits.{Limits}
 use Rattle.vsm_core.specs.declared.event.Event.{Event}
@@ -37,7 +37,7 @@ use Rattle.cpu.specs.declared.cpu_turn.Pace.{Pace}
 use Rattle.cpu.specs.declared.cpu_turn.Pace.TheVariants as paces
 use Rattle.cpu.specs.Logs.{first_by, seen_by}
 use Rattle.cpu.specs.Turns.{TurnsBy, after_mark, answer_at, asked_next, asks_by, pace_of, phase_at, request_at, turn_of}
-use Rattle.cpu.specs.UnderWay.{IsHeard, IsTidy, IsUnchecked, IsUnderWay, Means, led_to, op_of}
+use Rattle.cpu.specs.UnderWay.{IsTidy, IsUnderWay, led_to}
 use Rattle.cpu.proofs.Lists.{drop-length}
 use Rattle.cpu.proofs.Replies.{heard-on, heard-within, moved}
 use Rattle.cpu.proofs.Seen.{own-by, answers-by, phase-by, saw-by, saw_so}
@@ -223,11 +223,6 @@ wanted-turn v n op q k seat e started en =
     let left : asked_next (asking (Some op) v) ≡ request_at (rest_of v (Some op)) = rw started refl in
     let asked : asked_next n ≡ Some q = ap asked_next en ∙ left ∙ ap request_at e in
     rw e (refl, en, ap (turn_of paces.Wants) asked)
-
--- the turn that hands out a request
-pub wanted-by : (v n : Vp) (op : Op) (q : Request) (k : Reply → Tree Outcome) (seat : Seat) (asked : Request) → rest_of v (Some op) ≡ Wants q k → n ≡ asking (Some op) v → asked ≡ q
-    → TurnsBy (rest_of v (Some op)) (Some op) v seat n seat (turns.Wants asked)
-wanted-by v n op q k seat asked e en eq = rw e (refl, en, ap turns.Wants eq)
 
 -- an attempt that hasn't come to its end
 abbrev pub IsOpen : Tree Outcome → Type 0

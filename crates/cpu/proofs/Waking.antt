@@ -1,12 +1,11 @@
 -- A processor that waits for its start, and how it starts.
 use Rattle.std.proofs.lemmas.Bool.Decides.{nat_tests}
-use Rattle.std.proofs.Common.{◌≡◌, ◌∙◌, ◌==◌, ◌+◌, ℕ, arith, true, false, Bool, List, [], ◌∷◌, ◌++◌, length, refl, ap, Option, Some, None}
+use Rattle.std.proofs.Common.{◌≡◌, ◌∙◌, ◌==◌, ◌+◌, ℕ, arith, true, false, List, [], ◌∷◌, ◌++◌, length, refl, ap, Option, Some, None}
 use Rattle.vsm_core.specs.declared.event.Event.{Event}
 use Rattle.vsm_core.specs.declared.mark.Ending.{Ending}
 use Rattle.vsm_core.specs.declared.mark.What.TheVariants.{Started}
 use Rattle.vsm_core.specs.declared.request.PartCall.TheVariants.{Fetch}
 use Rattle.vsm_core.specs.declared.request.Reply.{Reply}
-use Rattle.vsm_core.specs.declared.request.Request.{Request}
 use Rattle.vsm_core.specs.Hypercalls.{asked_of}
 use Rattle.vsm_core.specs.Outcomes.{Origin, Outcome}
 use Rattle.vsm_core.specs.Processor.{Vp, answers_of, answered, asking, ending_after, origin_of, saw, settled, start_mark, start_rest}

@@ -9,7 +9,7 @@ use Rattle.vsm_core.specs.Attempt.{attempt, most_steps}
 use Rattle.vsm_core.specs.Outcomes.{Origin, Outcome}
 use Rattle.vsm_core.specs.Processor.{answers_of}
 use Rattle.vsm_core.specs.Sound.{Sound, IsOver}
-use Rattle.vsm_core.specs.Tree.{Tree, Ends, Asks, Wants, WordStep, Entering, Checking, Masking, Reading, Writing, Leaving, Posting, Taking, Counts, followed}
+use Rattle.vsm_core.specs.Tree.{Tree, Ends, Asks, Wants, Checking, Counts, followed}
 use Rattle.attempt.specs.declared.under.Under.{Under}
 use Rattle.attempt.specs.Rests.{StageIs, rest_of}
 use Rattle.attempt.specs.Views.{VpView, origin_of}

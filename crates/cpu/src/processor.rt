@@ -156,12 +156,7 @@ impl Cpu {
         if let Some(grant) = self.under.again() {
             return self.mark_again(grant);
         }
-        let pace = leave_mark(
-            &mut self.state,
-            &mut self.log,
-            &self.under,
-            &self.lengths,
-        );
+        let pace = leave_mark(&mut self.state, &mut self.log, &self.under, &self.lengths);
         self.acting = false;
         self.heard = None;
         pace

@@ -1,5 +1,4 @@
-use Rattle.std.proofs.Common.{◌≡◌, ◌∙◌, ◌<◌, true, false, Some, None, refl, sym, ap, arith}
-use Rattle.vsm_base.specs.declared.places.Limits.{Limits}
+use Rattle.std.proofs.Common.{◌≡◌, ◌∙◌, true, false, Some, None, refl, sym, ap, arith}
 use Rattle.vsm_core.specs.Processor.{operation_at}
 use Rattle.vsm_core.specs.Seat.{Seat}
 use Rattle.attempt.specs.Asked.{word_step}

@@ -1,4 +1,4 @@
-use Rattle.std.proofs.Common.{◌≡◌, ◌≢◌, ◌≤◌, ◌-◌, length, ◌∷◌, [], true, false, None, Some, refl, sym, ap, subst, inr, ◌∙◌, arith, length-append}
+use Rattle.std.proofs.Common.{◌≡◌, ◌≢◌, ◌≤◌, ◌-◌, length, ◌∷◌, [], true, false, None, refl, sym, ap, subst, inr, ◌∙◌, arith, length-append}
 use Rattle.vsm_core.specs.declared.mark.What.TheVariants.{Again}
 use Rattle.vsm_core.specs.Attempt.{attempt}
 use Rattle.vsm_core.specs.State.{rip_of}

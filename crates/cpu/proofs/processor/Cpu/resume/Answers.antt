@@ -1,5 +1,4 @@
-use Rattle.std.proofs.Common.{◌≡◌, ◌-◌, ◌∙◌, true, false, Some, None, length, refl, sym, ap, subst}
-use Rattle.vsm_core.specs.declared.request.Request.{Request}
+use Rattle.std.proofs.Common.{◌≡◌, ◌-◌, ◌∙◌, true, false, Some, None, length, refl, sym, subst}
 use Rattle.attempt.specs.Calls.{by_answer, request_for}
 use Rattle.attempt.specs.Rests.{rest_of}
 use Rattle.vsm_core.specs.Tree.{Wants}
