@@ -39,6 +39,7 @@ impl VpState {
     }
 
     /// What comes next of an attempt.
+    #[inline(always)]
     pub fn next(&self, under: &Under) -> Next
         requires { StageIs (origin_of self.now) under.now }
         ensures head { IsHeadOf (origin_of self.now) under.now (rest_of (origin_of self.now) under.now) result }

@@ -18,6 +18,8 @@ use attempt::{Under, VpState};
 use vsm_core::{Grant, What};
 
 /// Leaves the mark that stays, where an attempt has come to its end, and does to the state what the attempt does.
+// Its locals are cleared at each call, so it isn't part of a step's function.
+#[inline(never)]
 pub fn leave_mark(state: &mut VpState, log: &mut Log, under: &Under, lengths: &Lengths) -> Pace
     requires room { 0 < state.old.room }
     requires is { DecidedIs (origin_of state.old) under.now under.now.decided }

@@ -108,6 +108,7 @@ impl Cpu {
 
     /// Leaves the mark of a spin that found another value and begins anew, or ends.
     #[tactic(auto, unfolding(vsm_core::specs::Processor::spin_limit))]
+    #[inline(never)]
     fn mark_again(&mut self, grant: Grant) -> Pace
         requires started { self.old.started ≡ true }
         requires going { self.old.ended ≡ None }
@@ -134,6 +135,7 @@ impl Cpu {
     }
 
     /// Leaves the mark, if the attempt has come to its end.
+    #[inline(always)]
     fn settle(&mut self) -> Pace
         requires started { self.old.started ≡ true }
         requires going { self.old.ended ≡ None }

@@ -157,6 +157,8 @@ fn fetch_at(fabric: &mut PlainFabric, cpu: &mut Cpu, program: &Program) -> Reque
 
 // Lets a processor that hasn't started take from its start word, and where that was posted to it fetches its contexts and
 // starts with them. No other processor acts meanwhile.
+// It isn't part of an attempt's function, whose locals are cleared at each call.
+#[inline(never)]
 fn start_at(fabric: &mut PlainFabric, partition: &mut Partition, cpu: &mut Cpu, program: &Program)
     requires going { cpu.old.ended ≡ None }
     requires waits { cpu.old.started ≡ false }
