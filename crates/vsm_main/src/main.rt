@@ -1,14 +1,11 @@
 //! The program: a script in, a report out; and large scripts from a number.
 #![tactic(auto)]
 
-mod command;
-mod serve;
-
-pub use serve::{Status, serve_plain, vsm};
 use std::process::ExitCode;
 use std::{env, io};
 use vsm_base::{StdSink, StdSource};
 pub use vsm_run::trace;
+pub use vsm_serve::{Status, serve_plain, vsm};
 
 #[cfg(test)]
 mod cases;

@@ -11,12 +11,12 @@ use Rattle.guest_script.specs.Print.{printed}
 use Rattle.guest_script.specs.declared.script.Script.{Script}
 use Rattle.vsm_report.specs.FlatRun.{flat}
 use Rattle.vsm_report.specs.Text.{text}
-use Rattle.vsm_main.specs.declared.command.Command.{Command}
-use Rattle.vsm_main.specs.declared.command.Command.TheVariants as commands
-use Rattle.vsm_main.specs.declared.serve.Status.{Status}
-use Rattle.vsm_main.specs.declared.serve.Status.TheVariants as statuses
-use Rattle.vsm_main.specs.Commands.{command_of}
-use Rattle.vsm_main.specs.Serve.{Ends, Says, SaysOf, SaysOfTrace, SaysOfText, Decides, Traces, Completes, sample_text, status_of, status_for}
+use Rattle.vsm_serve.specs.declared.command.Command.{Command}
+use Rattle.vsm_serve.specs.declared.command.Command.TheVariants as commands
+use Rattle.vsm_serve.specs.declared.serve.Status.{Status}
+use Rattle.vsm_serve.specs.declared.serve.Status.TheVariants as statuses
+use Rattle.vsm_serve.specs.Commands.{command_of}
+use Rattle.vsm_serve.specs.Serve.{Ends, Says, SaysOf, SaysOfTrace, SaysOfText, Decides, Traces, Completes, sample_text, status_of, status_for}
 
 -- a status of no command is the usage
 no_command : (e : Ends) (status : Status) (command : Option Command) → SaysOf command status e → command ≡ None → status ≡ statuses.Usage

@@ -1,4 +1,4 @@
-use Rattle.vsm_main.proofs.serve.serve_trace.Goals as goal
+use Rattle.vsm_serve.proofs.serve.serve_trace.Goals as goal
 
 pub returns-in-Err-Refused-clause-says : goal.returns-in-Err-Refused-clause-says
 returns-in-Err-Refused-clause-says g c =

@@ -8,9 +8,9 @@ ghost use Rattle.guest_script.specs.Print.{printed};
 ghost use Rattle.guest_script.specs.declared.script.Script.{Script};
 ghost use Rattle.vsm_report.specs.FlatRun.{flat};
 ghost use Rattle.vsm_report.specs.Text.{text};
-ghost use Rattle.vsm_main.specs.Commands.{command_of};
-ghost use Rattle.vsm_main.specs.Serve.{Says, SaysOfTrace, SaysOfText, Decides, Completes, counts_text, refusal_text, sample_text, status_of, status_of_trace, usage_text};
-ghost use Rattle.vsm_main.specs.declared.command.Command.TheVariants.{Trace, Make, Sample};
+ghost use Rattle.vsm_serve.specs.Commands.{command_of};
+ghost use Rattle.vsm_serve.specs.Serve.{Says, SaysOfTrace, SaysOfText, Decides, Completes, counts_text, refusal_text, sample_text, status_of, status_of_trace, usage_text};
+ghost use Rattle.vsm_serve.specs.declared.command.Command.TheVariants.{Trace, Make, Sample};
 
 use crate::command::{Command, command_of};
 use guest_script::{ReadError, Refusal, make, print, read};

@@ -16,11 +16,11 @@ use Rattle.vsm_report.specs.FlatRun.{flat}
 use Rattle.vsm_report.specs.Pieces.{line}
 use Rattle.vsm_report.specs.Text.{text}
 use Rattle.vsm_report.specs.declared.counts.Counts.{Counts}
-use Rattle.vsm_main.specs.Commands.{command_of}
-use Rattle.vsm_main.specs.declared.command.Command.{Command}
-use Rattle.vsm_main.specs.declared.command.Command.TheVariants as commands
-use Rattle.vsm_main.specs.declared.serve.Status.{Status}
-use Rattle.vsm_main.specs.declared.serve.Status.TheVariants as statuses
+use Rattle.vsm_serve.specs.Commands.{command_of}
+use Rattle.vsm_serve.specs.declared.command.Command.{Command}
+use Rattle.vsm_serve.specs.declared.command.Command.TheVariants as commands
+use Rattle.vsm_serve.specs.declared.serve.Status.{Status}
+use Rattle.vsm_serve.specs.declared.serve.Status.TheVariants as statuses
 
 abbrev pub usage_text : List ℕ
 usage_text = codes "usage: vsm trace|make N|sample N" ++ 10 ∷ []

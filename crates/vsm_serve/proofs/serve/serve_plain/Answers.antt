@@ -1,6 +1,6 @@
 use Rattle.std.proofs.Common.{map, string_bytes}
-use Rattle.vsm_main.proofs.Statuses.{usage_only, usage_words, completes, makes, samples}
-use Rattle.vsm_main.proofs.serve.serve_plain.Goals as goal
+use Rattle.vsm_serve.proofs.Statuses.{usage_only, usage_words, completes, makes, samples}
+use Rattle.vsm_serve.proofs.serve.serve_plain.Goals as goal
 
 pub returns-clause-usage : goal.returns-clause-usage
 returns-clause-usage g c =

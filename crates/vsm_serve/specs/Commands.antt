@@ -2,8 +2,8 @@
 use Rattle.std.specs.Prelude.{ℕ, List, [], ◌∷◌, Bool, true, false, ◌&&◌, if◌then◌else◌, ◌==◌, ◌≤◌, nat_le, codes, Option, Some, None}
 use Rattle.std.specs.Str.{bytes_eq}
 use Rattle.guest_script.specs.Numbers.{numeral}
-use Rattle.vsm_main.specs.declared.command.Command.{Command}
-use Rattle.vsm_main.specs.declared.command.Command.TheVariants as commands
+use Rattle.vsm_serve.specs.declared.command.Command.{Command}
+use Rattle.vsm_serve.specs.declared.command.Command.TheVariants as commands
 
 -- a word that begins with a zero
 abbrev pub begins_with_zero : List ℕ → Bool

@@ -1,6 +1,6 @@
 // The words of a command line.
 ghost use Rattle.std.specs.Prelude.{◌≡◌, ◌≤◌, IfSome, map, string_bytes};
-ghost use Rattle.vsm_main.specs.Commands.{begins_with_zero, command_of, size_of, sized, IsSized};
+ghost use Rattle.vsm_serve.specs.Commands.{begins_with_zero, command_of, size_of, sized, IsSized};
 
 use guest_script::numeral;
 

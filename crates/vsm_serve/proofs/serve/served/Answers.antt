@@ -1,5 +1,5 @@
 use Rattle.std.proofs.Common.{refl}
-use Rattle.vsm_main.proofs.serve.served.Goals as goal
+use Rattle.vsm_serve.proofs.serve.served.Goals as goal
 
 pub returns-in-None-clause-says : goal.returns-in-None-clause-says
 returns-in-None-clause-says g c =
