@@ -1,0 +1,6 @@
+//! Laws of the definitions that no other crate needs. A crate above `vsm_core` isn't proved again when one gets stronger.
+#![tactic(auto)]
+
+mod starts;
+
+pub use starts::configurations_deny_starts_to_level_0;
