@@ -1,14 +1,12 @@
 -- A level that is away keeps the registers of its own.
-use Rattle.std.proofs.Common.{◌≡◌, ◌≢◌, ◌∙◌, ◌++◌, ◌==◌, ◌&&◌, ◌||◌, ℕ, Bool, true, false, not, cond, Option, Some, None, is_none, List, [], ◌∷◌, length, take, drop, slice_set, refl, sym, ap, subst, arith}
+use Rattle.std.proofs.Common.{◌≡◌, ◌∙◌, ◌++◌, ◌&&◌, ◌||◌, ℕ, Bool, true, false, not, cond, Option, Some, None, List, [], ◌∷◌, length, take, drop, slice_set, refl, sym, ap, subst, arith}
 use Rattle.std.specs.List.{list_any}
 use Rattle.vsm_base.specs.Names.{is_shared}
 use Rattle.vsm_base.specs.declared.name.Name.{Name}
 use Rattle.vsm_base.specs.declared.name.Name.TheVariants as names
 use Rattle.vsm_base.specs.declared.places.Vtl.{Vtl}
 use Rattle.vsm_base.specs.declared.places.Vtl.TheVariants.{Zero, One}
-use Rattle.vsm_base.specs.declared.status.HvStatus.{HvStatus}
 use Rattle.vsm_base.specs.declared.status.TheConstants.HvStatus as statuses
-use Rattle.vsm_core.specs.declared.mark.GuestFault.TheVariants.{Undefined}
 use Rattle.vsm_core.specs.declared.operation.Op.{Op}
 use Rattle.vsm_core.specs.declared.operation.Op.TheVariants.{Hypercall}
 use Rattle.vsm_core.specs.declared.operation.Program.{Program}
@@ -20,12 +18,12 @@ use Rattle.vsm_core.specs.Attempt.{attempt, refused}
 use Rattle.vsm_core.specs.Calls.{code_in, result_value}
 use Rattle.vsm_core.specs.Contexts.{enabled_by, has_level, is_legal_context, values_of, with_context}
 use Rattle.vsm_core.specs.Fills.{Cached}
-use Rattle.vsm_core.specs.Hypercalls.{input_value, own_context, replied, result_outcome, with_result}
+use Rattle.vsm_core.specs.Hypercalls.{input_value, own_context, replied, with_result}
 use Rattle.vsm_core.specs.Keeps.{KeepsOther, after_attempts, other_level}
-use Rattle.vsm_core.specs.Outcomes.{Origin, Outcome, Refusal, faulted}
+use Rattle.vsm_core.specs.Outcomes.{Origin, Outcome}
 use Rattle.vsm_core.specs.Processor.{Vp, attempted, operation_at, origin_of}
 use Rattle.vsm_core.specs.RegisterCalls.{Setting, all_set, all_emptied, header_refusal, names_one, register_of, set_named, set_one, set_refusals, set_slice, settings, slice_end, slice_outcome}
-use Rattle.vsm_core.specs.Registers.{Registers, private_of, put as put_in, private_place, shared_place, with_private}
+use Rattle.vsm_core.specs.Registers.{Registers, private_of, private_place, shared_place, with_private}
 use Rattle.vsm_core.specs.Reps.{RepEnd, Refused, GoesOn, Complete, acting, with_start}
 use Rattle.vsm_core.specs.State.{State}
 use Rattle.vsm_core.specs.Targets.{target_level}

@@ -1,5 +1,5 @@
 -- Registers that a change of others leaves.
-use Rattle.std.proofs.Common.{◌≡◌, ◌≢◌, ◌∙◌, ◌<◌, ◌+◌, ◌==◌, ◌&&◌, ◌||◌, ℕ, suc, Bool, true, false, not, cond, List, [], ◌∷◌, length, refl, sym, arith, lit<, get_or, slice_set, slice_index}
+use Rattle.std.proofs.Common.{◌≡◌, ◌≢◌, ◌<◌, ◌==◌, ◌&&◌, ◌||◌, ℕ, suc, Bool, true, false, cond, List, [], ◌∷◌, length, refl, sym, arith, lit<, get_or, slice_set, slice_index}
 use Rattle.std.proofs.lemmas.Bool.Decides.{nat_tests}
 use Rattle.std.proofs.lemmas.List.{get_or-set_other}
 use Rattle.vsm_base.specs.declared.name.Name.{Name}
@@ -7,8 +7,7 @@ use Rattle.vsm_base.specs.declared.name.Name.TheVariants as names
 use Rattle.vsm_base.specs.declared.places.Vtl.{Vtl}
 use Rattle.vsm_base.specs.declared.places.Vtl.TheVariants.{Zero, One}
 use Rattle.vsm_base.specs.Names.{number_of, all_names, is_shared}
-use Rattle.vsm_core.specs.Registers.{Registers, is_legal, get, put, private_of, with_private, place_among, shared_names, private_names, shared_place, private_place}
-use Rattle.vsm_core.specs.State.{State, put as put_active, put_legal}
+use Rattle.vsm_core.specs.Registers.{Registers, get, put, private_of, with_private, place_among, shared_names, private_names, shared_place, private_place}
 use Rattle.vsm_laws.specs.Changes.{is_same, is_level, is_common}
 
 at_head : (o a b x y n : ℕ) → (x < n → x ≡ y → a ≡ b) → cond (o == a) 0 (suc x) < suc n → cond (o == a) 0 (suc x) ≡ cond (o == b) 0 (suc y) → a ≡ b

@@ -1,5 +1,5 @@
 -- Which registers an attempt keeps.
-use Rattle.std.proofs.Common.{◌≡◌, ◌≢◌, ◌∙◌, ◌+◌, ◌*◌, ◌/◌, ◌%◌, ◌==◌, ◌&&◌, ◌||◌, ◌++◌, ℕ, Bool, true, false, not, cond, is_some, if◌then◌else◌, Option, Some, None, List, [], ◌∷◌, length, take, drop, slice_index, slice_set, refl, sym, ap, subst, arith}
+use Rattle.std.proofs.Common.{◌≡◌, ◌≢◌, ◌∙◌, ◌+◌, ◌==◌, ◌&&◌, ◌||◌, ◌++◌, ℕ, Bool, true, false, not, cond, is_some, if◌then◌else◌, Option, Some, None, List, [], ◌∷◌, length, take, refl, sym, subst}
 use Rattle.std.specs.List.{list_any}
 use Rattle.vsm_base.specs.Names.{is_shared}
 use Rattle.vsm_base.specs.declared.name.Name.{Name}
@@ -7,7 +7,6 @@ use Rattle.vsm_base.specs.declared.name.Name.TheVariants as names
 use Rattle.vsm_base.specs.declared.places.Access.TheVariants.{Read, Write, Execute}
 use Rattle.vsm_base.specs.declared.places.Vtl.{Vtl}
 use Rattle.vsm_base.specs.declared.places.Vtl.TheVariants.{Zero, One}
-use Rattle.vsm_base.specs.declared.status.HvStatus.{HvStatus}
 use Rattle.vsm_base.specs.declared.status.TheConstants.HvStatus as statuses
 use Rattle.vsm_core.specs.declared.mark.EomWord.TheVariants as eoms
 use Rattle.vsm_core.specs.declared.mark.Grant.{Grant}
@@ -26,26 +25,26 @@ use Rattle.vsm_core.specs.declared.register.CallRegister.{CallRegister}
 use Rattle.vsm_core.specs.declared.register.CallRegister.TheVariants.{Kept}
 use Rattle.vsm_core.specs.declared.request.Reply.{Reply}
 use Rattle.vsm_core.specs.Access.{Goal, Decision, Grants, Denies, Faults, access, start_fault}
-use Rattle.vsm_core.specs.Attempt.{attempt, begun, eom_on, goal_of, get_tree, hit_tells, hits_on, in_own_access, intercepted, is_read_hit, is_wanted, is_write_hit, leaves, left_with, polled_on, posting, refused, returns, sending, sends, set_tree, told_on, unwanted_outcome, wanted_outcome}
+use Rattle.vsm_core.specs.Attempt.{attempt, begun, eom_on, goal_of, get_tree, hits_on, in_own_access, intercepted, is_read_hit, is_wanted, is_write_hit, leaves, left_with, polled_on, posting, refused, returns, sending, set_tree, told_on, unwanted_outcome, wanted_outcome}
 use Rattle.vsm_core.specs.Calls.{code_in, result_value}
 use Rattle.vsm_core.specs.Contexts.{enabled_by, has_level, is_legal_context, values_of, with_context}
 use Rattle.vsm_core.specs.Controllers.{Controllers, message_page, waiting_then, eom_by}
 use Rattle.vsm_core.specs.Fills.{Cached}
 use Rattle.vsm_core.specs.Hypercalls.{input_value, own_context, replied, result_outcome, with_result}
 use Rattle.vsm_core.specs.Keeps.{EndsIn, after_attempts}
-use Rattle.vsm_core.specs.Outcomes.{Origin, Outcome, Refusal, denied_outcome, empties, eom_outcome, faulted, fills, get_outcome, held_outcome, hit_outcome, loaded, next_vector, note_of, outcome_at, passed, plain, register_note, set_outcome, spun, vector_or_zero}
+use Rattle.vsm_core.specs.Outcomes.{Origin, Outcome, empties, eom_outcome, faulted, fills, get_outcome, hit_outcome, loaded, next_vector, outcome_at, passed, plain, register_note, set_outcome, spun, vector_or_zero}
 use Rattle.vsm_core.specs.Processor.{Vp, attempted, operation_at, origin_of}
 use Rattle.vsm_core.specs.RegisterCalls.{Setting, all_set, all_emptied, header_refusal, names_one, register_of, set_named, set_one, set_refusals, set_slice, settings, slice_end, slice_outcome}
-use Rattle.vsm_core.specs.Registers.{get as get_in, is_legal, private_of, private_place, put as put_in}
+use Rattle.vsm_core.specs.Registers.{get as get_in, is_legal}
 use Rattle.vsm_core.specs.Reps.{RepEnd, Refused, GoesOn, Complete, acting, with_start}
 use Rattle.vsm_core.specs.State.{State, get, put, put_legal, gone_to, gone_on, may_name, operand, rip_of, word_of}
-use Rattle.vsm_core.specs.Switch.{assist_page, by_call, by_interrupt, called, entered, is_zero, may_call, may_return, restored_from, returned, with_active, with_pair}
+use Rattle.vsm_core.specs.Switch.{assist_page, by_call, by_interrupt, called, is_zero, may_call, may_return, restored_from, returned, with_active, with_pair}
 use Rattle.vsm_core.specs.Targets.{target_level}
 use Rattle.vsm_core.specs.Tree.{Tree, Ends, Asks, Wants}
 use Rattle.vsm_core.specs.Whole.{Flat}
 use Rattle.vsm_core.proofs.KeptLevels.{EndsIn-then_, EndsIn-cond, EndsIn-asks_all, Q-cond, gone_on-stays, legal-then-on, put_legal-stays}
 use Rattle.vsm_core.proofs.KeptRegisters.{if-legal, put_legal-rax, put_legal-rcx}
-use Rattle.vsm_laws.specs.Changes.{NoneChanges, done_by, done_of, is_common, is_kept, is_level, is_new, is_same, level_named, may_change, names_kept, sets_alone, sets_leaving, sets_some, sets_staying}
+use Rattle.vsm_laws.specs.Changes.{NoneChanges, done_by, is_common, is_kept, is_level, is_new, is_same, level_named, may_change, names_kept, sets_alone, sets_leaving, sets_some, sets_staying}
 use Rattle.vsm_laws.specs.ReadWords.{EndsReading, with_read, words_read}
 use Rattle.vsm_laws.proofs.Away.{all-active, done-here, is_hypercall, is-hypercall}
 use Rattle.vsm_laws.proofs.Changing.{put-keeps}

@@ -1,5 +1,5 @@
 -- What holds at each end of an attempt, of the words that it has read.
-use Rattle.std.proofs.Common.{◌≡◌, ◌∙◌, ◌+◌, ◌++◌, ℕ, zero, suc, Bool, true, false, cond, Option, Some, None, List, [], ◌∷◌, length, refl, sym, ap, subst, arith, append_assoc, length-append}
+use Rattle.std.proofs.Common.{◌≡◌, ◌∙◌, ◌+◌, ◌++◌, ℕ, zero, suc, Bool, true, false, cond, Option, Some, None, List, [], ◌∷◌, length, refl, sym, subst, arith, append_assoc, length-append}
 use Rattle.vsm_core.specs.declared.event.Event.{Event}
 use Rattle.vsm_core.specs.declared.event.Event.TheVariants as events
 use Rattle.vsm_core.specs.declared.mark.Ending.{Ending}
@@ -15,12 +15,12 @@ use Rattle.vsm_core.specs.Controllers.{message_page}
 use Rattle.vsm_core.specs.Fills.{Cached}
 use Rattle.vsm_core.specs.Keeps.{EndsIn}
 use Rattle.vsm_core.specs.Outcomes.{Origin, Outcome, Refusal, denied_outcome, faulted, held_outcome, note_of}
-use Rattle.vsm_core.specs.Processor.{Vp, Did, answered, asking, attempted, came_to, does_all, marked_or_ended, operation_at, origin_of, saw, settled, tree_of, wakes}
+use Rattle.vsm_core.specs.Processor.{Vp, Did, answered, asking, attempted, came_to, does_all, marked_or_ended, operation_at, origin_of, saw, tree_of, wakes}
 use Rattle.vsm_core.specs.Served.{after, answer, block}
 use Rattle.vsm_core.specs.State.{State}
 use Rattle.vsm_core.specs.Steps.{made}
 use Rattle.vsm_core.specs.Switch.{assist_page, by_interrupt, may_enter}
-use Rattle.vsm_core.specs.Tree.{Tree, Ends, Asks, Wants, WordStep, reads}
+use Rattle.vsm_core.specs.Tree.{Tree, Ends, Asks, Wants, reads}
 use Rattle.vsm_core.specs.Whole.{Flat, answer_in, flat_after, with_entries}
 use Rattle.vsm_core.proofs.KeptLevels.{EndsIn-asks_all, EndsIn-by_slot, EndsIn-cond}
 use Rattle.vsm_laws.specs.ReadWords.{EndsReading, all_read, with_read, words_read}

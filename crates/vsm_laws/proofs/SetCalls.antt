@@ -1,5 +1,5 @@
 -- What holds at each end of a hypercall, by what holds where it sets registers, and elsewhere.
-use Rattle.std.proofs.Common.{◌≡◌, ◌∙◌, ◌+◌, ◌*◌, ◌/◌, ◌%◌, ◌==◌, ◌++◌, ℕ, zero, suc, Bool, true, false, cond, Option, Some, None, List, [], ◌∷◌, find, length, refl, sym, ap, subst, arith}
+use Rattle.std.proofs.Common.{◌≡◌, ◌∙◌, ◌+◌, ◌*◌, ◌/◌, ◌%◌, ◌==◌, ◌++◌, ℕ, Bool, true, false, cond, Option, Some, None, List, [], ◌∷◌, find, length, refl, sym, ap, subst, arith}
 use Rattle.std.proofs.lemmas.List.{append-nil}
 use Rattle.std.proofs.lemmas.Bool.Decides.{nat_tests}
 use Rattle.vsm_base.specs.declared.places.Access.{Access}
@@ -12,7 +12,7 @@ use Rattle.vsm_base.specs.Masks.{allows}
 use Rattle.vsm_core.specs.declared.mark.GuestFault.TheVariants.{Undefined}
 use Rattle.vsm_core.specs.declared.request.PartCall.{PartCall}
 use Rattle.vsm_core.specs.declared.request.Reply.{Reply}
-use Rattle.vsm_core.specs.Attempt.{admitted, behind_output, behind_page_mask, by_input, by_memory, by_refusal, by_registers, gets_by, gets_or_asks, hypercall_tree, interrupts, interrupts_by, left_for, left_with, looked_by, puts_out, reads_input, reads_slice, refused, requests, served, sets_by, sets_or_asks}
+use Rattle.vsm_core.specs.Attempt.{admitted, behind_output, behind_page_mask, by_input, by_memory, by_refusal, by_registers, gets_by, gets_or_asks, hypercall_tree, interrupts, interrupts_by, left_for, left_with, looked_by, puts_out, reads_input, reads_slice, refused, requests, sets_by, sets_or_asks}
 use Rattle.vsm_core.specs.Calls.{Row, rows, row_of, code_in, is_fast, first_failed}
 use Rattle.vsm_core.specs.Controllers.{writes}
 use Rattle.vsm_core.specs.Hypercalls.{input_value, input_address, output_address, has_output, fast_words, input_refusal, replied, result_outcome}

@@ -1,5 +1,5 @@
 -- Which registers an attempt may change.
-use Rattle.std.specs.Prelude.{ℕ, ◌≡◌, ◌==◌, ◌&&◌, ◌||◌, Bool, true, false, not, if◌then◌else◌, Option, Some, is_none, is_some, List, [], ◌∷◌, take, drop}
+use Rattle.std.specs.Prelude.{ℕ, ◌≡◌, ◌==◌, ◌&&◌, ◌||◌, Bool, true, false, not, if◌then◌else◌, Some, is_none, is_some, List, [], ◌∷◌, take, drop}
 use Rattle.std.specs.List.{list_any}
 use Rattle.vsm_base.specs.Levels.{level_number}
 use Rattle.vsm_base.specs.Names.{is_shared, number_of}

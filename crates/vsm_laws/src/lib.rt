@@ -1,4 +1,4 @@
-//! Laws of the definitions that no other crate needs. A crate above `vsm_core` isn't proved again when one gets stronger.
+//! Laws of the definitions that no other crate needs. No crate stands on it, so a stronger law has none proved again.
 #![tactic(auto)]
 
 mod registers;
