@@ -1,5 +1,6 @@
 -- A level that is away keeps the registers of its own.
-use Rattle.std.proofs.Common.{◌≡◌, ◌∙◌, ◌++◌, ◌&&◌, ◌||◌, ℕ, Bool, true, false, not, cond, Option, Some, None, List, [], ◌∷◌, length, take, drop, slice_set, refl, sym, ap, subst, arith}
+use Rattle.std.proofs.Common.{◌≡◌, ◌∙◌, ◌++◌, ◌&&◌, ◌||◌, ℕ, Bool, true, false, not, cond, Option, Some, None, List, [], ◌∷◌, length, take, drop, slice_set, refl, sym, ap, subst, arith, ◌≢◌, ◌==◌, is_none}
+use Rattle.std.proofs.lemmas.Bool.Decides.{nat_tests}
 use Rattle.std.specs.List.{list_any}
 use Rattle.vsm_base.specs.Names.{is_shared}
 use Rattle.vsm_base.specs.declared.name.Name.{Name}
@@ -12,14 +13,14 @@ use Rattle.vsm_core.specs.declared.operation.Op.TheVariants.{Hypercall}
 use Rattle.vsm_core.specs.declared.operation.Program.{Program}
 use Rattle.vsm_core.specs.declared.partition_state.PartitionState.{PartitionState}
 use Rattle.vsm_core.specs.declared.register.CallRegister.{CallRegister}
-use Rattle.vsm_core.specs.declared.register.CallRegister.TheVariants.{Kept}
+use Rattle.vsm_core.specs.declared.register.CallRegister.TheVariants.{Kept, PartitionConfig}
 use Rattle.vsm_core.specs.declared.request.Reply.{Reply}
 use Rattle.vsm_core.specs.Attempt.{attempt, refused}
 use Rattle.vsm_core.specs.Calls.{code_in, result_value}
 use Rattle.vsm_core.specs.Contexts.{enabled_by, has_level, is_legal_context, values_of, with_context}
 use Rattle.vsm_core.specs.Fills.{Cached}
 use Rattle.vsm_core.specs.Hypercalls.{input_value, own_context, replied, with_result}
-use Rattle.vsm_core.specs.Keeps.{KeepsOther, after_attempts, other_level}
+use Rattle.vsm_core.specs.Keeps.{IsAway as IsAwayAndSetsNone, SetsNone, KeepsOther, after_attempts, other_level}
 use Rattle.vsm_core.specs.Outcomes.{Origin, Outcome}
 use Rattle.vsm_core.specs.Processor.{Vp, attempted, operation_at, origin_of}
 use Rattle.vsm_core.specs.RegisterCalls.{Setting, all_set, all_emptied, header_refusal, names_one, register_of, set_named, set_one, set_refusals, set_slice, settings, slice_end, slice_outcome}
@@ -86,7 +87,8 @@ named-active : (target : Vtl) (s : State) (register : Option CallRegister) (valu
 named-active target s (Some (Kept name)) value = refl
 named-active target s _ value = refl
 
-neither : (a b : Bool) → (a || b) ≡ false → (a ≡ false) × (b ≡ false)
+-- neither of two tests
+pub neither : (a b : Bool) → (a || b) ≡ false → (a ≡ false) × (b ≡ false)
 neither true b e = cc
 neither false b e = (refl, e)
 
@@ -196,3 +198,27 @@ away-keeps level program v (e ∷ es) away =
     let own : other_level v.state.active ≡ level = ap other_level away.1 ∙ other-twice level in
     let kept = once-keeps level program v e.0 e.1 away.0 away.1 away.3 away.2 in
     away-keeps level program next es away.4 ∙ subst (λ l. private_of next.state.registers l ≡ private_of v.state.registers l) own kept
+
+-- a call by another code has no element that is done
+none-done : (test : Name → Bool) (set good : Bool) (done : List Setting) → set ≡ false → list_any (names_kept test) (cond (set && good) done []) ≡ false
+none-done test false good done e = refl
+none-done test true good done e = cc
+
+others-set-none : (test : Name → Bool) (from : Origin) (words : List ℕ) → code_in (input_value from.state) ≢ 0x0051 → sets_some test from Hypercall words ≡ false
+others-set-none test from words other =
+    none-done test (code_in (input_value from.state) == 0x0051) (is_none (header_refusal from (take 2 words))) (done_of from (take 2 words) (settings (drop 2 words))) (grind (arith, nat_tests, other))
+
+none-and : (b c : Bool) → c ≡ false → (b && c) ≡ false
+none-and true c e = e
+none-and false c e = refl
+
+spares-by : (level : Vtl) (program : Program) (v : Vp) (words : List ℕ) → SetsNone level program v → SpareOwn level program v words
+spares-by One program v words none = tt
+spares-by Zero program v words none = λ is. none-and (is_level (level_named (origin_of v) words) Zero) (sets_some is_own (origin_of v) Hypercall words) (others-set-none is_own (origin_of v) words (none is))
+
+pub asks-less : (level : Vtl) (program : Program) (v : Vp) (es : List (PartitionState × Flat)) → IsAwayAndSetsNone level program v es → IsAway level program v es
+asks-less level program v [] away = tt
+asks-less level program v (e ∷ es) away = (away.0, away.1, away.2, spares-by level program v (words_read program v e.0 e.1) away.3, asks-less level program (attempted program v e.0 e.1).vp es away.4)
+
+pub configuration-names-none : (test : Name → Bool) (s : Setting) → register_of s.number ≡ Some PartitionConfig → names_kept test s ≡ false
+configuration-names-none test s is = rw is refl

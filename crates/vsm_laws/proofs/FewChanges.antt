@@ -46,7 +46,7 @@ use Rattle.vsm_core.proofs.KeptLevels.{EndsIn-then_, EndsIn-cond, EndsIn-asks_al
 use Rattle.vsm_core.proofs.KeptRegisters.{if-legal, put_legal-rax, put_legal-rcx}
 use Rattle.vsm_laws.specs.Changes.{NoneChanges, done_by, is_common, is_kept, is_level, is_new, is_same, level_named, may_change, names_kept, sets_alone, sets_leaving, sets_some, sets_staying}
 use Rattle.vsm_laws.specs.ReadWords.{EndsReading, with_read, words_read}
-use Rattle.vsm_laws.proofs.Away.{all-active, done-here, is_hypercall, is-hypercall}
+use Rattle.vsm_laws.proofs.Away.{all-active, done-here, is_hypercall, is-hypercall, neither}
 use Rattle.vsm_laws.proofs.Changing.{put-keeps}
 use Rattle.vsm_laws.proofs.Reading.{attempted-so, reading-any, reading-so, refused-ends, tree-so}
 use Rattle.vsm_laws.proofs.SetCalls.{hypercall-so}
@@ -56,10 +56,6 @@ either-way : (c a b : Bool) → (c && (a || b)) ≡ false → ((c && a) ≡ fals
 either-way false a b e = (refl, refl)
 either-way true true b e = cc
 either-way true false b e = (refl, e)
-
-neither : (a b : Bool) → (a || b) ≡ false → (a ≡ false) × (b ≡ false)
-neither true b e = cc
-neither false b e = (refl, e)
 
 when : (A : Type 0) (b : Bool) (x y : A) → b ≡ true → cond b x y ≡ x
 when A true x y e = refl
