@@ -31,7 +31,7 @@ use Rattle.vsm_core.specs.Targets.{target_level}
 use Rattle.vsm_core.specs.Whole.{Flat}
 use Rattle.vsm_core.proofs.KeptAttempts.{attempt-keeps}
 use Rattle.vsm_core.proofs.KeptLevels.{Stays, legal-then-on, put_legal-stays}
-use Rattle.vsm_laws.specs.Changes.{IsAway, SpareOwn, done_by, done_of, is_kept, is_level, level_named, names_kept, sets_some}
+use Rattle.vsm_laws.specs.Changes.{IsAway, SparesOwn, SparesZero, done_by, done_of, is_kept, is_level, level_named, names_kept, sets_some}
 use Rattle.vsm_laws.specs.ReadWords.{EndsReading, words_read}
 use Rattle.vsm_laws.proofs.Reading.{attempted-so, reading-any, reading-so, refused-ends, tree-so}
 use Rattle.vsm_laws.proofs.SetCalls.{hypercall-so}
@@ -115,15 +115,12 @@ done-here from header words code long good =
     let two = two-words header words long in
     (rw (two.0, two.1, code, good) refl, rw two.0 refl)
 
-abbrev Spares : Origin → List ℕ → Type 0
-Spares from words = (is_level (level_named from words) Zero && sets_some is_own from Hypercall words) ≡ false
-
 spares-then : (target : Vtl) (some : Bool) → (is_level target Zero && some) ≡ false → target ≡ Zero → some ≡ false
 spares-then Zero some e f = e
 spares-then One some e f = cc
 
 set-zero : (from : Origin) (header words : List ℕ) → from.state.active ≡ One → code_in (input_value from.state) ≡ 0x0051 → length header ≡ 2 → header_refusal from header ≡ None
-    → Spares from (header ++ words) → own_of (set_slice from (target_level from.state.active header) (settings words)).state ≡ own_of from.state
+    → SparesZero from (header ++ words) → own_of (set_slice from (target_level from.state.active header) (settings words)).state ≡ own_of from.state
 set-zero from header words one code long good spares =
     let target = target_level from.state.active header in
     let refusals = set_refusals from target (settings words) in
@@ -137,7 +134,7 @@ set-zero from header words one code long good spares =
 
 -- whatever is answered, an attempt of level 1 keeps level 0's
 abbrev KeepsZero : Origin → List ℕ → Outcome → Type 0
-KeepsZero from words o = Spares from words → own_of o.state ≡ own_of from.state
+KeepsZero from words o = SparesZero from words → own_of o.state ≡ own_of from.state
 
 hypercall-zero : (from : Origin) → from.state.active ≡ One → EndsReading (KeepsZero from) [] (attempt from Hypercall)
 hypercall-zero from one =
@@ -159,7 +156,7 @@ is-hypercall Hypercall e = refl
 is-hypercall _ e = cc
 
 abbrev KeepsOwn : Origin → Op → List ℕ → Outcome → Type 0
-KeepsOwn from op words o = (op ≡ Hypercall → Spares from words) → KeepsOther from.state o.state
+KeepsOwn from op words o = (op ≡ Hypercall → SparesZero from words) → KeepsOther from.state o.state
 
 zero-by : (from : Origin) (op : Op) (b : Bool) → is_hypercall op ≡ b → from.state.active ≡ One → EndsReading (KeepsOwn from op) [] (attempt from op)
 zero-by from op true e one =
@@ -178,14 +175,14 @@ other-twice : (level : Vtl) → other_level (other_level level) ≡ level
 other-twice Zero = refl
 other-twice One = refl
 
-once-keeps : (level : Vtl) (program : Program) (v : Vp) (s : PartitionState) (flat : Flat) → v.started ≡ true → v.state.active ≡ other_level level → SpareOwn level program v (words_read program v s flat)
+once-keeps : (level : Vtl) (program : Program) (v : Vp) (s : PartitionState) (flat : Flat) → v.started ≡ true → v.state.active ≡ other_level level → SparesOwn level program v (words_read program v s flat)
     → KeepsOther v.state (attempted program v s flat).vp.state
 once-keeps One program v s flat started zero spares =
     attempted-so (λ words state. KeepsOther v.state state) program v s flat started (λ words e. refl)
     (tree-so (λ words o. KeepsOther v.state o.state) (origin_of v) (operation_at program v.state) (λ e. refl) (λ op is. one-by (origin_of v) op zero))
 once-keeps Zero program v s flat started one spares =
     let from = origin_of v in
-    let Keeps : List ℕ → State → Type 0 = λ words state. (operation_at program v.state ≡ Some Hypercall → Spares from words) → KeepsOther v.state state in
+    let Keeps : List ℕ → State → Type 0 = λ words state. (operation_at program v.state ≡ Some Hypercall → SparesZero from words) → KeepsOther v.state state in
     attempted-so Keeps program v s flat started (λ words h e. refl)
     (tree-so (λ words o. Keeps words o.state) from (operation_at program v.state) (λ h e. refl)
     (λ op is. reading-so (KeepsOwn from op) (λ words o. Keeps words o.state) (λ words o h spare. h (λ call. spare (rw is (ap Some call)))) [] (attempt from op) (zero-by from op (is_hypercall op) refl one)))
@@ -212,7 +209,7 @@ none-and : (b c : Bool) → c ≡ false → (b && c) ≡ false
 none-and true c e = e
 none-and false c e = refl
 
-spares-by : (level : Vtl) (program : Program) (v : Vp) (words : List ℕ) → SetsNone level program v → SpareOwn level program v words
+spares-by : (level : Vtl) (program : Program) (v : Vp) (words : List ℕ) → SetsNone level program v → SparesOwn level program v words
 spares-by One program v words none = tt
 spares-by Zero program v words none = λ is. none-and (is_level (level_named (origin_of v) words) Zero) (sets_some is_own (origin_of v) Hypercall words) (others-set-none is_own (origin_of v) words (none is))
 

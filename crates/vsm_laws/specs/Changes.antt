@@ -97,13 +97,17 @@ NoneChanges level name program v (e ∷ es) =
     ((op : Op) → operation_at program v.state ≡ Some op → may_change (origin_of v) op (words_read program v e.0 e.1) (attempted program v e.0 e.1).vp.state level name ≡ false) ×
     NoneChanges level name program (attempted program v e.0 e.1).vp es
 
--- by a call, level 1 sets no register of level 0's own: no element that is done names one
-abbrev pub SpareOwn : Vtl → Program → Vp → List ℕ → Type 0
-SpareOwn One program v words = Unit {0}
-SpareOwn Zero program v words = operation_at program v.state ≡ Some Hypercall → (is_level (level_named (origin_of v) words) Zero && sets_some (λ register. not (is_shared register)) (origin_of v) Hypercall words) ≡ false
+-- a call that reads these words sets no register of level 0's own: no element that is done names one of level 0
+abbrev pub SparesZero : Origin → List ℕ → Type 0
+SparesZero from words = (is_level (level_named from words) Zero && sets_some (λ register. not (is_shared register)) from Hypercall words) ≡ false
+
+-- level 1 sets none by a call; level 0 cannot set those of level 1
+abbrev pub SparesOwn : Vtl → Program → Vp → List ℕ → Type 0
+SparesOwn One program v words = Unit {0}
+SparesOwn Zero program v words = operation_at program v.state ≡ Some Hypercall → SparesZero (origin_of v) words
 
 -- the processor has started, each of these attempts begins at the other level, none enables level 1, and none sets registers of this level's own by a call
 abbrev pub IsAway : Vtl → Program → Vp → List (PartitionState × Flat) → Type 0
 IsAway level program v [] = Unit {0}
 IsAway level program v (e ∷ es) =
-    (v.started ≡ true) × (v.state.active ≡ other_level level) × ((attempted program v e.0 e.1).vp.state.enabled ≡ v.state.enabled) × SpareOwn level program v (words_read program v e.0 e.1) × IsAway level program (attempted program v e.0 e.1).vp es
+    (v.started ≡ true) × (v.state.active ≡ other_level level) × ((attempted program v e.0 e.1).vp.state.enabled ≡ v.state.enabled) × SparesOwn level program v (words_read program v e.0 e.1) × IsAway level program (attempted program v e.0 e.1).vp es
