@@ -1,0 +1,4 @@
+//! Laws of the definitions on which no other crate rests. Each function's contract is the law; it computes nothing.
+#![tactic(auto)]
+
+pub mod layouts;
