@@ -1,5 +1,6 @@
 -- A page's words and the elements of an input.
-use Rattle.std.proofs.Common.{◌≡◌, ◌≤◌, ◌<◌, ◌+◌, ◌*◌, ◌-◌, ◌/◌, ◌%◌, ◌^◌, ℕ, zero, suc, false, List, [], ◌∷◌, Option, None, Some, Result, Ok, Err, All, length, take, drop, not, ◌==◌, refl, sym, ap, ◌∙◌, arith, nat_lt}
+use Rattle.std.proofs.Common.{◌≡◌, ◌≤◌, ◌<◌, ◌+◌, ◌*◌, ◌-◌, ◌/◌, ◌%◌, ◌^◌, ℕ, zero, suc, false, List, [], ◌∷◌, Option}
+use Rattle.std.proofs.Common.{None, Some, Ok, All, take, drop, not, ◌==◌, refl, sym, ap, ◌∙◌, arith, nat_lt}
 use Rattle.std.proofs.lemmas.Bool.Decides.{nat_tests}
 use Rattle.std.proofs.lemmas.List.{drop-take, take-take, drop-drop, get_or-take, get_or-drop}
 use Rattle.std.specs.Int.{from_le_bytes, w32, w64}
@@ -27,10 +28,16 @@ take-words zero n bytes h = refl
 take-words (suc m) zero bytes h = absurd (omega (arith, h))
 take-words (suc m) (suc n) bytes h =
     let long : 8 + 8 * m ≡ 8 * suc m = omega (arith) in
-    rw (← long, take-words m n (drop 8 bytes) (omega (arith, h)), take-take 8 (8 + 8 * m) bytes (omega (arith)), drop-take 8 (8 * m) bytes) refl
+    rw (
+      ← long,
+      take-words m n (drop 8 bytes) (omega (arith, h)),
+      take-take 8 (8 + 8 * m) bytes (omega (arith)),
+      drop-take 8 (8 * m) bytes,
+    ) refl
 
 -- a part of a part
-pub part-part : (xs : List ℕ) (k w j m : ℕ) → j + m ≤ w → take m (drop j (take w (drop k xs))) ≡ take m (drop (k + j) xs)
+pub part-part : (xs : List ℕ) (k w j m : ℕ) → j + m ≤ w
+    → take m (drop j (take w (drop k xs))) ≡ take m (drop (k + j) xs)
 part-part xs k w j m h =
     let all : w ≡ j + (w - j) = omega (arith, h) in
     ap (λ x. take m (drop j (take x (drop k xs)))) all
@@ -92,14 +99,22 @@ unless-none : {A : Type 0} (refused : Option HvStatus) (a b : A) → unless refu
 unless-none None a b e = (refl, cc)
 unless-none (Some status) a b e = cc
 
-pub is-part : (page : List ℕ) (offset first size : ℕ) (part : List ℕ) → part_at page offset first size ≡ Ok part → IsPart page offset first size part
+pub is-part : (page : List ℕ) (offset first size : ℕ) (part : List ℕ) → part_at page offset first size ≡ Ok part
+    → IsPart page offset first size part
 is-part page offset first size part e =
-    let all : (first_failed (part_checks offset (first + size)) ≡ None) × (part ≡ slice_range page first (first + size)) = unless-none _ _ _ e in
-    let checked : (not (offset % 8 == 0) ≡ false) × ((nat_lt 4096 (first + size) ≡ false) × Unit {0}) = none-fails (part_checks offset (first + size)) all.0 in
+    let all : (first_failed (part_checks offset (first + size)) ≡ None) × (part
+    ≡ slice_range page first (first + size)) = unless-none _ _ _ e in
+    let checked : (not (offset % 8 == 0) ≡ false) × ((nat_lt 4096 (first + size) ≡ false) × Unit {0}) =
+    none-fails (part_checks offset (first + size)) all.0 in
     let aligned : not (offset % 8 == 0) ≡ false = checked.0 in
     let inside : nat_lt 4096 (first + size) ≡ false = checked.1.0 in
     let short : (first + size) - first ≡ size = omega (arith) in
-    record { aligned = grind (arith, nat_tests); inside = grind (arith, nat_tests); is = all.1 ∙ ap (λ k. take k (drop first page)) short }
+    record {
+      aligned = grind (arith, nat_tests);
+      inside = grind (arith, nat_tests);
+      is = all.1
+          ∙ ap (λ k. take k (drop first page)) short;
+    }
 
 -- the halves of a word are the numbers of its lower and of its upper four bytes
 small-at : (xs : List ℕ) → All (λ b. b < 256) xs → (i : ℕ) → slice_index xs i < 256
@@ -108,11 +123,13 @@ small-at (x ∷ xs) h zero = h 0 0 (omega (arith))
 small-at (x ∷ xs) h (suc i) = small-at xs (λ k d l. h (suc k) d (omega (arith, l))) i
 
 lower-of : (a b c d e f g h : ℕ) → a < 256 → b < 256 → c < 256 → d < 256
-    → (a + b * 256 ^ 1 + c * 256 ^ 2 + d * 256 ^ 3 + e * 256 ^ 4 + f * 256 ^ 5 + g * 256 ^ 6 + h * 256 ^ 7) % 2 ^ 32 ≡ a + b * 256 ^ 1 + c * 256 ^ 2 + d * 256 ^ 3
+    → (a + b * 256 ^ 1 + c * 256 ^ 2 + d * 256 ^ 3 + e * 256 ^ 4 + f * 256 ^ 5 + g * 256 ^ 6 + h * 256 ^ 7) % 2 ^ 32
+    ≡ a + b * 256 ^ 1 + c * 256 ^ 2 + d * 256 ^ 3
 lower-of a b c d e f g h la lb lc ld = omega (arith, la, lb, lc, ld)
 
 upper-of : (a b c d e f g h : ℕ) → a < 256 → b < 256 → c < 256 → d < 256
-    → (a + b * 256 ^ 1 + c * 256 ^ 2 + d * 256 ^ 3 + e * 256 ^ 4 + f * 256 ^ 5 + g * 256 ^ 6 + h * 256 ^ 7) / 2 ^ 32 ≡ e + f * 256 ^ 1 + g * 256 ^ 2 + h * 256 ^ 3
+    → (a + b * 256 ^ 1 + c * 256 ^ 2 + d * 256 ^ 3 + e * 256 ^ 4 + f * 256 ^ 5 + g * 256 ^ 6 + h * 256 ^ 7) / 2 ^ 32
+    ≡ e + f * 256 ^ 1 + g * 256 ^ 2 + h * 256 ^ 3
 upper-of a b c d e f g h la lb lc ld = omega (arith, la, lb, lc, ld)
 
 lower : (xs : List ℕ) → All (λ b. b < 256) xs → from_le_bytes w64 (take 8 xs) % 2 ^ 32 ≡ from_le_bytes w32 (take 4 xs)
@@ -120,16 +137,46 @@ lower xs h =
     let t : (i : ℕ) → i < 8 → slice_index (take 8 xs) i ≡ slice_index xs i = λ i l. get_or-take 8 xs i 0 l in
     let u : (i : ℕ) → i < 4 → slice_index (take 4 xs) i ≡ slice_index xs i = λ i l. get_or-take 4 xs i 0 l in
     let s : (i : ℕ) → slice_index xs i < 256 = small-at xs h in
-    rw (t 0 (omega arith), t 1 (omega arith), t 2 (omega arith), t 3 (omega arith), t 4 (omega arith), t 5 (omega arith), t 6 (omega arith), t 7 (omega arith), u 0 (omega arith), u 1 (omega arith), u 2 (omega arith), u 3 (omega arith))
-    (lower-of (slice_index xs 0) (slice_index xs 1) (slice_index xs 2) (slice_index xs 3) (slice_index xs 4) (slice_index xs 5) (slice_index xs 6) (slice_index xs 7) (s 0) (s 1) (s 2) (s 3))
+    rw (
+      t 0 (omega arith),
+      t 1 (omega arith),
+      t 2 (omega arith),
+      t 3 (omega arith),
+      t 4 (omega arith),
+      t 5 (omega arith),
+      t 6 (omega arith),
+      t 7 (omega arith),
+      u 0 (omega arith),
+      u 1 (omega arith),
+      u 2 (omega arith),
+      u 3 (omega arith),
+    )
+    (lower-of (slice_index xs 0) (slice_index xs 1) (slice_index xs 2) (slice_index xs 3) (slice_index xs 4)
+    (slice_index xs 5) (slice_index xs 6) (slice_index xs 7) (s 0) (s 1) (s 2) (s 3))
 
-upper : (xs : List ℕ) → All (λ b. b < 256) xs → from_le_bytes w64 (take 8 xs) / 2 ^ 32 ≡ from_le_bytes w32 (take 4 (drop 4 xs))
+upper : (xs : List ℕ) → All (λ b. b < 256) xs → from_le_bytes w64 (take 8 xs) / 2 ^ 32
+    ≡ from_le_bytes w32 (take 4 (drop 4 xs))
 upper xs h =
     let t : (i : ℕ) → i < 8 → slice_index (take 8 xs) i ≡ slice_index xs i = λ i l. get_or-take 8 xs i 0 l in
-    let u : (i j : ℕ) → i < 4 → 4 + i ≡ j → slice_index (take 4 (drop 4 xs)) i ≡ slice_index xs j = λ i j l e. get_or-take 4 (drop 4 xs) i 0 l ∙ get_or-drop 4 xs i 0 ∙ ap (slice_index xs) e in
+    let u : (i j : ℕ) → i < 4 → 4 + i ≡ j → slice_index (take 4 (drop 4 xs)) i ≡ slice_index xs j =
+    λ i j l e. get_or-take 4 (drop 4 xs) i 0 l ∙ get_or-drop 4 xs i 0 ∙ ap (slice_index xs) e in
     let s : (i : ℕ) → slice_index xs i < 256 = small-at xs h in
-    rw (t 0 (omega arith), t 1 (omega arith), t 2 (omega arith), t 3 (omega arith), t 4 (omega arith), t 5 (omega arith), t 6 (omega arith), t 7 (omega arith), u 0 4 (omega arith) refl, u 1 5 (omega arith) refl, u 2 6 (omega arith) refl, u 3 7 (omega arith) refl)
-    (upper-of (slice_index xs 0) (slice_index xs 1) (slice_index xs 2) (slice_index xs 3) (slice_index xs 4) (slice_index xs 5) (slice_index xs 6) (slice_index xs 7) (s 0) (s 1) (s 2) (s 3))
+    rw (
+      t 0 (omega arith),
+      t 1 (omega arith),
+      t 2 (omega arith),
+      t 3 (omega arith),
+      t 4 (omega arith),
+      t 5 (omega arith),
+      t 6 (omega arith),
+      t 7 (omega arith),
+      u 0 4 (omega arith) refl,
+      u 1 5 (omega arith) refl,
+      u 2 6 (omega arith) refl,
+      u 3 7 (omega arith) refl,
+    )
+    (upper-of (slice_index xs 0) (slice_index xs 1) (slice_index xs 2) (slice_index xs 3) (slice_index xs 4)
+    (slice_index xs 5) (slice_index xs 6) (slice_index xs 7) (s 0) (s 1) (s 2) (s 3))
 
 -- the half of a word, by its place
 abbrev pub half-at : ℕ → List ℕ → List ℕ
@@ -142,12 +189,17 @@ half-one (suc zero) [] l = refl
 half-one (suc zero) (w ∷ words) l = refl
 half-one (suc (suc b)) words l = absurd (omega (arith, l))
 
-pub number-at : (q b : ℕ) (words : List ℕ) → b < 2 → take 1 (drop (2 * q + b) (halves words)) ≡ half-at b (take 1 (drop q words))
+pub number-at : (q b : ℕ) (words : List ℕ) → b < 2 → take 1 (drop (2 * q + b) (halves words))
+    ≡ half-at b (take 1 (drop q words))
 number-at q b words l =
     ap (take 1) (sym (drop-drop b (2 * q) (halves words)) ∙ ap (drop b) (halves-drop q words))
-    ∙ half-one b (drop q words) l ∙ ap (λ ws. take 1 (drop b (halves ws))) (sym (take-take 1 1 (drop q words) (omega arith)))
+    ∙ half-one b (drop q words) l ∙ ap (λ ws. take 1 (drop b (halves ws))) (sym
+    (take-take 1 1 (drop q words) (omega arith)))
 
-pub word-half : (b : ℕ) (xs : List ℕ) → b < 2 → All (λ x. x < 256) xs → half-at b (words_in 1 (take 8 xs)) ≡ from_le_bytes w32 (take 4 (drop (4 * b) xs)) ∷ []
-word-half zero xs l h = ap (λ w. w % 2 ^ 32 ∷ []) (ap (from_le_bytes w64) (take-take 8 8 xs (omega arith))) ∙ ap (λ w. w ∷ []) (lower xs h)
-word-half (suc zero) xs l h = ap (λ w. w / 2 ^ 32 ∷ []) (ap (from_le_bytes w64) (take-take 8 8 xs (omega arith))) ∙ ap (λ w. w ∷ []) (upper xs h)
+pub word-half : (b : ℕ) (xs : List ℕ) → b < 2 → All (λ x. x < 256) xs
+    → half-at b (words_in 1 (take 8 xs)) ≡ from_le_bytes w32 (take 4 (drop (4 * b) xs)) ∷ []
+word-half zero xs l h = ap (λ w. w % 2 ^ 32 ∷ []) (ap (from_le_bytes w64) (take-take 8 8 xs (omega arith)))
+    ∙ ap (λ w. w ∷ []) (lower xs h)
+word-half (suc zero) xs l h = ap (λ w. w / 2 ^ 32 ∷ []) (ap (from_le_bytes w64) (take-take 8 8 xs (omega arith)))
+    ∙ ap (λ w. w ∷ []) (upper xs h)
 word-half (suc (suc b)) xs l h = absurd (omega (arith, l))
