@@ -1,5 +1,10 @@
-//! Laws of the definitions on which no other crate rests. Each function's contract is the law; it computes nothing.
+//! Laws of the definitions that no other crate needs. No crate above `vsm_core` is proved again when one gets stronger.
 #![tactic(auto)]
 
-pub mod inputs;
-pub mod layouts;
+mod inputs;
+mod layouts;
+mod starts;
+
+pub use inputs::slices_are_elements;
+pub use layouts::layouts_agree;
+pub use starts::configurations_deny_starts_to_level_0;
