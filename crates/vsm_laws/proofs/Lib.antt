@@ -1,6 +1,8 @@
 pub mod Away
+pub mod Changing
 pub mod DeniedStarts
+pub mod FewChanges
+pub mod PageWords
 pub mod Reading
 pub mod SetCalls
-pub mod Changing
-pub mod FewChanges
+pub mod SliceElements

@@ -1,3 +1,4 @@
 pub mod Changes
+pub mod InputWords
 pub mod ReadWords
 pub mod Starts

@@ -1,8 +1,12 @@
-//! Laws of the definitions that no other crate needs. No crate stands on it, so a stronger law has none proved again.
+//! Laws of the definitions that no other crate needs. No crate above `vsm_core` is proved again when one gets stronger.
 #![tactic(auto)]
 
+mod inputs;
+mod layouts;
 mod registers;
 mod starts;
 
+pub use inputs::slices_are_elements;
+pub use layouts::layouts_agree;
 pub use registers::{attempts_change_few_registers, own_registers_come_back};
 pub use starts::configurations_deny_starts_to_level_0;
