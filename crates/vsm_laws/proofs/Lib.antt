@@ -1,0 +1,3 @@
+pub mod DeniedStarts
+pub mod PageWords
+pub mod SliceElements

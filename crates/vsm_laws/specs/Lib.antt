@@ -1,0 +1,2 @@
+pub mod InputWords
+pub mod Starts
