@@ -1,5 +1,5 @@
 -- The commands, by the words of a command line.
-use Rattle.std.specs.Prelude.{ℕ, List, [], ◌∷◌, Bool, true, false, ◌&&◌, if◌then◌else◌, ◌==◌, ◌≤◌, nat_le, codes, Option, Some, None}
+use Rattle.std.specs.Prelude.{ℕ, List, [], ◌∷◌, Bool, false, ◌&&◌, if◌then◌else◌, ◌==◌, ◌≤◌, nat_le, codes, Option, Some, None}
 use Rattle.std.specs.Str.{bytes_eq}
 use Rattle.guest_script.specs.Numbers.{numeral}
 use Rattle.vsm_serve.specs.declared.command.Command.{Command}
@@ -23,7 +23,8 @@ size_of word = if begins_with_zero word then None else as_size (numeral 10 39 wo
 abbrev pub sized : List ℕ → Option ℕ → Option Command
 sized word None = None
 sized word (Some n) =
-    if bytes_eq word (codes "make") then Some (commands.Make n) else (if bytes_eq word (codes "sample") then Some (commands.Sample n) else None)
+    if bytes_eq word (codes "make") then Some (commands.Make n)
+    else (if bytes_eq word (codes "sample") then Some (commands.Sample n) else None)
 
 -- the command that the words are
 abbrev pub command_of : List (List ℕ) → Option Command

@@ -3,5 +3,7 @@
 
 mod command;
 mod serve;
+mod status;
 
-pub use serve::{Status, serve_plain, vsm};
+pub use serve::{serve_plain, vsm};
+pub use status::Status;
