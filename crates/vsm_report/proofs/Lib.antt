@@ -8,3 +8,6 @@ pub mod Serving
 pub mod Spelling
 pub mod Stepping
 pub mod StretchWords
+pub mod Telling
+pub mod TellingMarks
+pub mod TellingRuns
