@@ -11,3 +11,4 @@ pub mod StretchWords
 pub mod Telling
 pub mod TellingMarks
 pub mod TellingRuns
+pub mod VainSpins
