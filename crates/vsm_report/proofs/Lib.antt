@@ -8,3 +8,7 @@ pub mod Serving
 pub mod Spelling
 pub mod Stepping
 pub mod StretchWords
+pub mod Telling
+pub mod TellingMarks
+pub mod TellingRuns
+pub mod VainSpins

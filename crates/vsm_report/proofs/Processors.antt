@@ -1,8 +1,10 @@
 -- A processor stays the one that it was made as, at its place in a list.
-use Rattle.std.proofs.Common.{◌≡◌, ◌≢◌, ◌<◌, ◌⊎◌, inl, inr, eqb, ℕ, true, false, Option, Some, None, List, length, get_or, slice_get, slice_set, refl, sym, ap, ◌∙◌, subst}
+use Rattle.std.proofs.Common.{◌≡◌, ◌≢◌, ◌<◌, ◌⊎◌, inl, inr, eqb, ℕ, true, false, Option, Some, None, List, length, get_or, slice_get, slice_set, refl, sym, ap, ◌∙◌, subst, map, zero-add}
 use Rattle.std.proofs.lemmas.Bool.Decides.{eqb_tells}
 use Rattle.std.proofs.lemmas.Grind.{get_or-set_at}
 use Rattle.std.proofs.lemmas.List.{length-set, get_or-set_other}
+use Rattle.std.specs.List.{range_with_len}
+use Rattle.std.proofs.lemmas.List.FromFn.{length-map-range_with_len, get_or-map-range_with_len}
 use Rattle.std.proofs.lemmas.Option.{slice_get_within, slice_get-get_or, get_or_from_slice_get}
 use Rattle.vsm_core.specs.declared.event.Event.{Event}
 use Rattle.vsm_core.specs.declared.event.Event.TheVariants as events
@@ -20,6 +22,8 @@ use Rattle.vsm_core.specs.Served.{answer, after, block}
 use Rattle.vsm_core.specs.Steps.{made}
 use Rattle.vsm_core.specs.Tree.{Tree, Ends, Asks, Wants, WordStep}
 use Rattle.vsm_core.proofs.SameAnswers.{acts-either}
+use Rattle.guest_script.specs.declared.script.Script.{Script}
+use Rattle.vsm_report.specs.Acting.{opening_vp, opening_vps}
 
 pub same_by : (v u w : Vp) → IsSameProcessor v u → IsSameProcessor u w → IsSameProcessor v w
 same_by v u w h g = record {
@@ -62,9 +66,9 @@ pub acts-same-processor : {W : Type 0} (answers : W → WordStep → ℕ) (chang
 acts-same-processor answers changes adds program s v words =
     acts-either answers changes adds (λ did. IsSameProcessor v did.vp) program s v words (record { number = refl; limits = refl; zero_length = refl; one_length = refl; started = λ is. is }) (λ op t. does_all-same answers changes adds op s v words t)
 
--- what holds of each element by its place holds when one is set for which it holds
-pub places-set : {X : Type 0} (P : ℕ → X → Type 0) (xs : List X) (i : ℕ) (y : X) → P i y → ((j : ℕ) (x : X) → slice_get xs j ≡ Some x → P j x) → (j : ℕ) (x : X) → slice_get (slice_set xs i y) j ≡ Some x → P j x
-places-set P xs i y is all j x e = go (eqb_tells j i) where
+-- what holds of each element by its place but of one holds of all when that one is set to one for which it holds
+pub places-change : {X : Type 0} (P : ℕ → X → Type 0) (xs : List X) (i : ℕ) (y : X) → P i y → ((j : ℕ) (x : X) → eqb j i ≡ false → slice_get xs j ≡ Some x → P j x) → (j : ℕ) (x : X) → slice_get (slice_set xs i y) j ≡ Some x → P j x
+places-change P xs i y is others j x e = go (eqb_tells j i) where
   within : j < length xs
   within = subst (λ n. j < n) (length-set xs i y) (slice_get_within (slice_set xs i y) j x e)
 
@@ -76,4 +80,20 @@ places-set P xs i y is all j x e = go (eqb_tells j i) where
       let same : y ≡ x = sym (get_or-set_at xs i j y x here.1 (subst (λ n. n < length xs) here.1 within)) ∙ found in
       subst (λ k. P k x) (sym here.1) (subst (P i) same is)
   go (inr other) =
-      all j x (slice_get-get_or xs j x within ∙ ap Some (sym (get_or-set_other xs i j y x other.1) ∙ found))
+      others j x other.0 (slice_get-get_or xs j x within ∙ ap Some (sym (get_or-set_other xs i j y x other.1) ∙ found))
+
+-- what holds of each element by its place holds when one is set for which it holds
+pub places-set : {X : Type 0} (P : ℕ → X → Type 0) (xs : List X) (i : ℕ) (y : X) → P i y → ((j : ℕ) (x : X) → slice_get xs j ≡ Some x → P j x) → (j : ℕ) (x : X) → slice_get (slice_set xs i y) j ≡ Some x → P j x
+places-set P xs i y is all = places-change P xs i y is (λ j x other e. all j x e)
+
+-- the processor at a place before the first attempt
+pub record StandsAt (s : Script) (p : ℕ) (u : Vp) : Type 0 where
+  pub low : p < length s.programs
+  pub is : opening_vp s p ≡ u
+
+pub opening-at : (s : Script) (p : ℕ) (u : Vp) → slice_get (opening_vps s) p ≡ Some u → StandsAt s p u
+unfolding opening_vps
+opening-at s p u e =
+    let n = length s.programs in
+    let low : p < n = subst (λ k. p < k) (length-map-range_with_len (opening_vp s) 0 n) (slice_get_within (map (opening_vp s) (range_with_len 0 n)) p u e) in
+    record { low = low; is = sym (get_or-map-range_with_len (opening_vp s) 0 n p p u low (zero-add p)) ∙ get_or_from_slice_get (map (opening_vp s) (range_with_len 0 n)) p u u e }

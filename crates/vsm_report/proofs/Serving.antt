@@ -67,8 +67,9 @@ served-are s =
     schedule_alike (λ (v w : World). HasServed first w) (acted first s.programs) (acted first s.programs) (λ p v w h. acted-served first s.programs p w h) s.schedule (opened s) (opened s) tt
 
 -- the journal of a run is whole
-pub run-whole : (s : Script) → IsWhole s.limits.vps (joined (served s))
-run-whole s =
+pub flat-whole : (s : Script) → IsWhole s.limits.vps (flat s).journal
+unfolding flat served
+flat-whole s =
     subst (λ n. IsWhole n (joined (served s))) (length-map-range_with_len (opening_standing s.started) 0 s.limits.vps) (served-whole (first_partition s) (served s) refl refl (served-are s))
 
 -- the opening masks stay, and the journal is that of the requests that were served

@@ -29,7 +29,7 @@ use Rattle.vsm_report.specs.Opening.{opening_masks, opening_words}
 use Rattle.vsm_report.specs.FlatRun.{World, acted, opening_flat, opened, closed, served, report_of, flat}
 use Rattle.vsm_report.specs.Trace.{Kept, Stepped, after_more, made_steps, stepped, opening_shared, stepped_opening, stepped_report, traced}
 use Rattle.vsm_report.proofs.MaskTurns.{length-fold-with_mask}
-use Rattle.vsm_report.proofs.Processors.{acts-same-processor, places-set}
+use Rattle.vsm_report.proofs.Processors.{acts-same-processor, places-set, StandsAt, opening-at}
 
 -- what one processor's turns keep of two worlds in which it acts alike
 turns_alike : {V W : Type 0} (R : V → W → Type 0) (f : V → V) (g : W → W) → ((v : V) (w : W) → R v w → R (f v) (g w)) → (count : ℕ) (v : V) (w : W) → R v w → R (after_turns f count v) (after_turns g count w)
@@ -181,12 +181,9 @@ unfolding opening_masks
 length-opening_masks s = length-fold-with_mask (replicate s.limits.pages 15) s.masks ∙ length-replicate s.limits.pages 15
 
 opening-placed : (s : Script) → length s.programs ≡ s.limits.vps → (p : ℕ) (u : Vp) → slice_get (opening_vps s) p ≡ Some u → IsPlaced s.limits p u
-unfolding opening_vps
 opening-placed s all p u e =
-    let n = length s.programs in
-    let low : p < n = subst (λ k. p < k) (length-map-range_with_len (opening_vp s) 0 n) (slice_get_within (map (opening_vp s) (range_with_len 0 n)) p u e) in
-    let is : opening_vp s p ≡ u = sym (get_or-map-range_with_len (opening_vp s) 0 n p p u low (zero-add p)) ∙ get_or_from_slice_get (map (opening_vp s) (range_with_len 0 n)) p u u e in
-    subst (IsPlaced s.limits p) is (record { limits_same = refl; number = refl; low = subst (λ k. p < k) all low })
+    let at = opening-at s p u e in
+    subst (IsPlaced s.limits p) at.is (record { limits_same = refl; number = refl; low = subst (λ k. p < k) all at.low })
 
 opened_alike : (s : Script) → length s.programs ≡ s.limits.vps → Alike (first_partition s) s.limits (stepped_opening s) (opened s)
 unfolding stepped_opening opened opening_shared opening_flat

@@ -7,6 +7,7 @@ pub mod Marks
 pub mod Opening
 pub mod Pieces
 pub mod Schedule
+pub mod Telling
 pub mod Text
 pub mod Trace
 pub mod Words

@@ -4,6 +4,7 @@
 mod counts;
 mod digits;
 mod journal;
+mod laws;
 mod marks;
 mod opening;
 mod pieces;
@@ -13,6 +14,9 @@ mod words;
 mod writer;
 
 pub use counts::Counts;
+pub use laws::{
+    lines_tell_the_journal, lines_tell_the_marks, runs_serve_in_order, steps_come_to_attempts,
+};
 pub use pieces::{Piece, write_pieces};
 pub use report::{Line, Report, StepWord, Track, add_entry, add_mark};
 pub use writer::write;

@@ -12,6 +12,7 @@ use Rattle.vsm_core.specs.Processor.{Vp, opening}
 use Rattle.guest_script.specs.declared.script.Script.{Script}
 use Rattle.guest_script.specs.Programs.{program_at}
 use Rattle.vsm_report.specs.Acting.{opening_vp, opening_vps}
+use Rattle.vsm_report.proofs.Processors.{StandsAt, opening-at}
 use Rattle.vsm_run.specs.Fits.{Fits, FitsOne}
 use Rattle.vsm_base.specs.declared.places.Limits.{Limits}
 use Rattle.vsm_core.specs.Words.{busy_at}
@@ -47,18 +48,6 @@ pub opening-more : (s : Script) (p : ℕ) (program : Program) (v : Vp) (vps : Li
 opening-more s p program v vps low at is before =
     let own : v ≡ opening_vp s p = is ∙ ap (λ (q : Program). opening p s.limits (nat_lt p s.started) (length q.zero) (length q.one)) (sym (program_here s.programs p program low at)) in
     ap (λ us. us ++ v ∷ []) before ∙ ap (λ u. map (opening_vp s) (range_with_len 0 p) ++ u ∷ []) own ∙ sym (map-range_with_len_more (opening_vp s) 0 p p (zero-add p))
-
--- the processor at a place
-record StandsAt (s : Script) (p : ℕ) (u : Vp) : Type 0 where
-  low : p < length s.programs
-  is : opening_vp s p ≡ u
-
-opening-at : (s : Script) (p : ℕ) (u : Vp) → slice_get (opening_vps s) p ≡ Some u → StandsAt s p u
-unfolding opening_vps
-opening-at s p u e =
-    let n = length s.programs in
-    let low : p < n = subst (λ k. p < k) (length-map-range_with_len (opening_vp s) 0 n) (slice_get_within (map (opening_vp s) (range_with_len 0 n)) p u e) in
-    record { low = low; is = sym (get_or-map-range_with_len (opening_vp s) 0 n p p u low (zero-add p)) ∙ get_or_from_slice_get (map (opening_vp s) (range_with_len 0 n)) p u u e }
 
 pub length-opening_vps : (s : Script) → length (opening_vps s) ≡ length s.programs
 unfolding opening_vps

@@ -2,9 +2,11 @@ use Rattle.std.proofs.Common.{◌≡◌, ◌∙◌, ap, sym, subst, List, length
 use Rattle.vsm_core.specs.declared.operation.Program.{Program}
 use Rattle.vsm_core.specs.Blocks.{IsWhole}
 use Rattle.vsm_core.specs.Journal.{masks}
+use Rattle.vsm_core.specs.Served.{joined}
 use Rattle.vsm_report.specs.declared.report.Report.{Report}
+use Rattle.vsm_report.specs.FlatRun.{served}
 use Rattle.vsm_report.specs.Opening.{opening_masks}
-use Rattle.vsm_report.proofs.Serving.{served-are, run-whole, flat-masks}
+use Rattle.vsm_report.proofs.Serving.{served-are, flat-whole, flat-masks}
 use Rattle.vsm_report.proofs.Stepping.{flat-journal, traced-flat}
 use Rattle.vsm_run.proofs.Reports.{report-traced}
 use Rattle.vsm_run.proofs.run.trace.Goals as goal
@@ -27,12 +29,13 @@ pub returns-clause-served : goal.returns-clause-served
 returns-clause-served c = served-are c.args.script.now
 
 pub returns-clause-journal : goal.returns-clause-journal
-returns-clause-journal c = ap (λ (r : Report). r.journal) (returns-clause-at_once c) ∙ flat-journal c.args.script.now
+returns-clause-journal c =
+    let s = c.args.script.now in subst (λ (r : Report). r.journal ≡ joined (served s)) (sym (returns-clause-at_once c)) (flat-journal s)
 
 pub returns-clause-whole : goal.returns-clause-whole
-returns-clause-whole c = subst (IsWhole c.args.script.now.limits.vps) (sym (returns-clause-journal c)) (run-whole c.args.script.now)
+returns-clause-whole c =
+    let s = c.args.script.now in subst (λ (r : Report). IsWhole s.limits.vps r.journal) (sym (returns-clause-at_once c)) (flat-whole s)
 
 pub returns-clause-masks : goal.returns-clause-masks
 returns-clause-masks c =
-    let e = returns-clause-at_once c in
-    ap (λ (r : Report). r.masks) e ∙ flat-masks c.args.script.now ∙ ap (λ (r : Report). masks (opening_masks c.args.script.now) r.journal) (sym e)
+    let s = c.args.script.now in subst (λ (r : Report). r.masks ≡ masks (opening_masks s) r.journal) (sym (returns-clause-at_once c)) (flat-masks s)
