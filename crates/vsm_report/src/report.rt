@@ -23,11 +23,11 @@ pub enum StepWord {
     Post(VpIndex, PendingWord, u64),
     /// Bits were taken.
     Take(PendingWord, u64),
-    /// The processor waits for the partition to take its request.
+    /// The processor takes the partition for its request.
     Hold,
-    /// A processor's busy word is to be found clear, and it was.
+    /// The processor's request waits while this processor holds the partition.
     Waits(VpIndex),
-    /// A processor's busy word is to be found clear, and it wasn't.
+    /// The processor's round waits for this processor, whose busy word isn't clear.
     Busy(VpIndex),
     /// A step on nothing that is shared.
     Local,
