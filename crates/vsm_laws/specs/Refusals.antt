@@ -1,20 +1,27 @@
 -- What a refused hypercall leaves: what its elements that are done put out and set, and its result.
-use Rattle.std.specs.Prelude.{ℕ, ◌≡◌, ◌≢◌, ◌+◌, ◌*◌, ◌/◌, ◌-◌, ◌%◌, ◌==◌, if◌then◌else◌, List, [], ◌∷◌, ◌++◌, flat_map, take, drop}
+use Rattle.std.specs.Prelude.{ℕ, ◌≡◌, ◌≢◌, ◌+◌, ◌*◌, ◌/◌, ◌-◌, ◌%◌, ◌==◌, true, if◌then◌else◌, Some, List, [], ◌∷◌, ◌++◌, flat_map, take, drop}
+use Rattle.std.specs.List.{fold}
+use Rattle.vsm_base.specs.declared.places.Limits.{Limits}
 use Rattle.vsm_core.specs.Calls.{code_in, done_in, status_in}
 use Rattle.vsm_core.specs.Controllers.{writes}
 use Rattle.vsm_core.specs.Hypercalls.{input_value, output_address}
 use Rattle.vsm_core.specs.Keeps.{KeepsTheRest}
 use Rattle.vsm_core.specs.Outcomes.{Origin, Outcome}
+use Rattle.vsm_core.specs.Processor.{Vp, attempted, new_marks, operation_at, origin_of}
 use Rattle.vsm_core.specs.RegisterCalls.{Setting, all_emptied, all_set, got_words, settings, slice_numbers, start_of}
 use Rattle.vsm_core.specs.Served.{answer, block}
 use Rattle.vsm_core.specs.Tree.{Tree, Ends, Asks, Wants, WordStep, Writing, Posting, Taking}
+use Rattle.vsm_core.specs.Whole.{Flat, flat_after}
 use Rattle.vsm_core.specs.declared.event.PendingWord.TheVariants.{Start}
 use Rattle.vsm_core.specs.declared.journal.Entry.{Entry}
 use Rattle.vsm_core.specs.declared.journal.Entry.TheVariants as entries
+use Rattle.vsm_core.specs.declared.mark.Mark.{Mark}
 use Rattle.vsm_core.specs.declared.mark.What.TheVariants.{Reply as Result}
+use Rattle.vsm_core.specs.declared.operation.Op.TheVariants.{Hypercall}
+use Rattle.vsm_core.specs.declared.operation.Program.{Program}
 use Rattle.vsm_core.specs.declared.partition_state.PartitionState.{PartitionState}
 use Rattle.vsm_laws.specs.Changes.{level_named}
-use Rattle.vsm_laws.specs.ReadWords.{with_read}
+use Rattle.vsm_laws.specs.ReadWords.{with_read, words_read}
 
 -- the changes that were made, with a step's: it writes memory, posts to a word or takes from one
 abbrev pub with_change : List WordStep → WordStep → List WordStep
@@ -60,7 +67,25 @@ pub record LeavesTheDone (from : Origin) (read : List ℕ) (made : List WordStep
   pub keeps : KeepsTheRest (record from { state = all_set (level_named from read) from.state (sets from read value) }) o
   pub empties : o.does ≡ all_emptied (level_named from read) (sets from read value)
 
--- a result that refuses: its status isn't 0
+-- where an attempt has a result that refuses: its status isn't 0
 abbrev pub LeavesTheDoneIfRefused : Origin → (read : List ℕ) → (made : List WordStep) → Outcome → Type 0
 LeavesTheDoneIfRefused from read made o =
     (value : ℕ) → o.what ≡ Result value → status_in value ≢ 0 → LeavesTheDone from read made value o
+
+-- the processor makes a hypercall at once, and the mark that this leaves has a result that refuses
+pub record IsRefusedAtOnce (program : Program) (v : Vp) (s : PartitionState) (flat : Flat) (value : ℕ) : Type 0 where
+  pub started : v.started ≡ true
+  pub call : operation_at program v.state ≡ Some Hypercall
+  pub mark : Mark
+  pub left : new_marks v (attempted program v s flat).vp ≡ mark ∷ []
+  pub result : mark.what ≡ Result value
+  pub refuses : status_in value ≢ 0
+
+-- what was put out stands in memory, the rest of memory stays, and all posted words do
+pub record LeavesTheWords (limits : Limits) (number : ℕ) (flat : Flat) (put : List WordStep) (after : Flat) : Type 0 where
+  pub memory : after.memory ≡ (fold (flat_after limits number) flat put).memory
+  pub posted : after.posted ≡ flat.posted
+
+-- what a hypercall has put out that was made at once
+abbrev pub outputs_at_once : Program → Vp → PartitionState → Flat → (value : ℕ) → List WordStep
+outputs_at_once program v s flat value = outputs (origin_of v) (words_read program v s flat) value
