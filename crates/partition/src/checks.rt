@@ -10,6 +10,7 @@ use hyper_abi::{index_of, is_byte_form, is_other_partition, named, padding_of, t
 use register_file::Context;
 use vsm_base::{HvStatus, Mask, VpIndex, Vtl};
 use vsm_core::{PartitionState, Standing};
+use vsm_status::PartitionConfig;
 
 const NOBODY: Standing = Standing {
     one: false,
@@ -126,25 +127,25 @@ pub fn enable_vp_refusal(
     None
 }
 
-/// Whether a configuration of the partition turns the protection of pages on: bit 0.
+/// Whether a configuration of the partition turns the protection of pages on.
 pub fn protects(config: u64) -> bool
     ensures { result ≡ protects config }
 {
-    config % 2 == 1
+    PartitionConfig::fields_in(config).protect
 }
 
-/// The mask that a configuration of the partition gives to pages which were given none: bits 4:1.
+/// The mask that a configuration of the partition gives to pages which were given none.
 pub fn default_mask(config: u64) -> u32
     ensures { result ≡ default_mask config }
 {
-    (config / 2 % (1 << 4)) as u32
+    u32::from(PartitionConfig::fields_in(config).default)
 }
 
-/// Whether a configuration of the partition denies level 0 to start processors: bit 6.
+/// Whether a configuration of the partition denies level 0 to start processors.
 fn denies_startup(config: u64) -> bool
     ensures { result ≡ denies_startup config }
 {
-    config / (1 << 6) % 2 == 1
+    PartitionConfig::fields_in(config).deny_startup
 }
 
 /// Why the call that starts a processor is refused, if it is.

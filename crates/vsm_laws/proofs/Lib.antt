@@ -2,9 +2,16 @@ pub mod Away
 pub mod Changing
 pub mod DeniedStarts
 pub mod FewChanges
+pub mod FlushCalls
 pub mod PageWords
 pub mod Reading
 pub mod RefusedAtOnce
 pub mod RefusedCalls
+pub mod ServedEnds
 pub mod SetCalls
+pub mod SliceAnswers
+pub mod SliceCalls
 pub mod SliceElements
+pub mod SliceRows
+pub mod SliceRuns
+pub mod SliceStates

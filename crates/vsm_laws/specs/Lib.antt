@@ -2,4 +2,5 @@ pub mod Changes
 pub mod InputWords
 pub mod ReadWords
 pub mod Refusals
+pub mod Slices
 pub mod Starts

@@ -5,10 +5,12 @@ mod hypercalls;
 mod inputs;
 mod layouts;
 mod registers;
+mod reps;
 mod starts;
 
 pub use hypercalls::refused_hypercalls_keep_the_rest;
 pub use inputs::slices_are_elements;
 pub use layouts::layouts_agree;
 pub use registers::{attempts_change_few_registers, own_registers_come_back};
+pub use reps::slices_come_to_the_count;
 pub use starts::configurations_deny_starts_to_level_0;

@@ -5,6 +5,7 @@ use Rattle.std.specs.Int.{from_bool}
 use Rattle.vsm_base.specs.declared.places.Vtl.{Vtl}
 use Rattle.vsm_base.specs.declared.places.Vtl.TheVariants.{Zero, One}
 use Rattle.vsm_core.specs.Status.{vp_status, partition_status, capabilities, code_page_offsets}
+use Rattle.vsm_core.specs.Status.{default_mask, denies_startup, protects}
 use Rattle.vsm_status.specs.declared.vp_status.VpStatus.{VpStatus}
 use Rattle.vsm_status.specs.declared.partition_status.PartitionStatus.{PartitionStatus}
 use Rattle.vsm_status.specs.declared.partition_config.PartitionConfig.{PartitionConfig}
@@ -37,8 +38,17 @@ read_partition_status bits = if_has partition_status_bits bits (record { one_ena
 abbrev pub partition_config_bits : PartitionConfig → ℕ
 partition_config_bits config = from_bool config.protect + 2 * config.default + 2 ^ 5 * from_bool config.zero_on_reset + 2 ^ 6 * from_bool config.deny_startup
 
+-- the fields that bits have; bits 63:7 aren't looked at
+abbrev pub partition_config_in : ℕ → PartitionConfig
+partition_config_in bits = record {
+  protect = protects bits;
+  default = default_mask bits;
+  zero_on_reset = bits / 2 ^ 5 % 2 == 1;
+  deny_startup = denies_startup bits;
+}
+
 abbrev pub read_partition_config : ℕ → Option PartitionConfig
-read_partition_config bits = if_has partition_config_bits bits (record { protect = bits % 2 == 1; default = bits / 2 % 2 ^ 4; zero_on_reset = bits / 2 ^ 5 % 2 == 1; deny_startup = bits / 2 ^ 6 % 2 == 1 })
+read_partition_config bits = if_has partition_config_bits bits (partition_config_in bits)
 
 -- what the hypervisor offers
 abbrev pub capabilities_bits : Capabilities → ℕ

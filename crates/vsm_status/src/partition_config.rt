@@ -1,6 +1,6 @@
 // What a level asks for the whole partition.
 ghost use Rattle.std.specs.Prelude.{◌≡◌, ◌≢◌, ◌<◌, IfNone, IfSome, Some};
-ghost use Rattle.vsm_status.specs.Layouts.{partition_config_bits, read_partition_config};
+ghost use Rattle.vsm_status.specs.Layouts.{partition_config_bits, partition_config_in, read_partition_config};
 ghost use Rattle.vsm_status.specs.declared.partition_config.PartitionConfig.{PartitionConfig};
 
 /// What a level asks for the whole partition (TLFS, Virtual Secure Mode, HV_REGISTER_VSM_PARTITION_CONFIG).
@@ -30,6 +30,19 @@ impl PartitionConfig {
             + (u64::from(self.deny_startup) << 6)
     }
 
+    /// The fields that these bits have. The bits above 6 aren't looked at.
+    pub fn fields_in(bits: u64) -> PartitionConfig
+        ensures value { result ≡ partition_config_in bits }
+        ensures range { result.default < 16 }
+    {
+        PartitionConfig {
+            protect: bits % 2 == 1,
+            default: (bits / 2 % (1 << 4)) as u8,
+            zero_on_reset: bits / (1 << 5) % 2 == 1,
+            deny_startup: bits / (1 << 6) % 2 == 1,
+        }
+    }
+
     /// The configuration of these bits: `None` exactly where none has them.
     pub fn read(bits: u64) -> Option<PartitionConfig>
         ensures value { result ≡ read_partition_config bits }
@@ -37,12 +50,7 @@ impl PartitionConfig {
         ensures range { IfSome result (λ config. config.default < 16) }
         ensures none { IfNone result ((config : PartitionConfig) → config.default < 16 → partition_config_bits config ≢ bits) }
     {
-        let config = PartitionConfig {
-            protect: bits % 2 == 1,
-            default: (bits / 2 % (1 << 4)) as u8,
-            zero_on_reset: bits / (1 << 5) % 2 == 1,
-            deny_startup: bits / (1 << 6) % 2 == 1,
-        };
+        let config = PartitionConfig::fields_in(bits);
         (config.bits() == bits).then_some(config)
     }
 }
