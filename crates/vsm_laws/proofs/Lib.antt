@@ -2,6 +2,7 @@ pub mod Away
 pub mod Changing
 pub mod DeniedStarts
 pub mod FewChanges
+pub mod KeptAttempts
 pub mod PageWords
 pub mod Reading
 pub mod SetCalls
