@@ -6,7 +6,7 @@ use Rattle.vsm_base.specs.declared.places.Vtl.{Vtl}
 use Rattle.vsm_base.specs.declared.places.Vtl.TheVariants.{Zero, One}
 use Rattle.vsm_base.specs.Names.{is_shared}
 use Rattle.vsm_core.specs.Attempt.{by_slot}
-use Rattle.vsm_core.specs.Keeps.{EndsIn, KeepsOther, other_level}
+use Rattle.vsm_core.specs.Keeps.{EndsIn, other_level}
 use Rattle.vsm_core.specs.Outcomes.{Outcome}
 use Rattle.vsm_core.specs.Registers.{Registers, is_legal, private_of, put as put_in}
 use Rattle.vsm_core.specs.State.{State, put, put_legal, gone_to, gone_on, rip_of}
@@ -79,9 +79,3 @@ put-then-on s name value = stays-then s (put s name value) _ (put-stays s name v
 
 pub legal-then-on : (s : State) (name : Name) (value : ℕ) → Stays s (gone_on (put_legal s name value))
 legal-then-on s name value = stays-then s (put_legal s name value) _ (put_legal-stays s name value) (gone_on-stays (put_legal s name value))
-
-pub keeps-so : (old new : State) → Stays old new → KeepsOther old new
-keeps-so old new h = λ e. h.private
-
-pub keeps-same : (s : State) → KeepsOther s s
-keeps-same s = λ e. refl

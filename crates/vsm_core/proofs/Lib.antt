@@ -2,7 +2,6 @@ pub mod Bounds
 pub mod Checks
 pub mod FewEntries
 pub mod HeldEntries
-pub mod KeptAttempts
 pub mod KeptElements
 pub mod KeptLevels
 pub mod KeptRefusals

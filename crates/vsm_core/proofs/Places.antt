@@ -9,7 +9,8 @@ use Rattle.vsm_core.specs.Registers.{place_among, shared_names, private_names, s
 at_head : (o a b x y n : ℕ) → (x < n → x ≡ y → a ≡ b) → cond (o == a) 0 (suc x) < suc n → cond (o == a) 0 (suc x) ≡ cond (o == b) 0 (suc y) → a ≡ b
 at_head o a b x y n later within same = grind (arith, nat_tests)
 
-place-number : (list : List Name) (a b : Name) → place_among list a < length list → place_among list a ≡ place_among list b → number_of a ≡ number_of b
+-- registers that stand at one place of a list are one
+pub place-number : (list : List Name) (a b : Name) → place_among list a < length list → place_among list a ≡ place_among list b → number_of a ≡ number_of b
 place-number [] a b within same = absurd (omega arith)
 place-number (o ∷ os) a b within same =
     at_head (number_of o) (number_of a) (number_of b) (place_among os a) (place_among os b) (length os) (place-number os a b) within same

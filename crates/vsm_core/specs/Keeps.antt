@@ -1,5 +1,5 @@
 -- What attempts leave as it was.
-use Rattle.std.specs.Prelude.{◌≡◌, ◌≢◌, ℕ, ◌+◌, true, Some, List, [], ◌∷◌, length, take}
+use Rattle.std.specs.Prelude.{◌≡◌, ◌≢◌, ℕ, ◌+◌, List, [], ◌∷◌, length, take}
 use Rattle.vsm_base.specs.declared.name.Name.{Name}
 use Rattle.vsm_base.specs.declared.name.Name.TheVariants as names
 use Rattle.vsm_base.specs.declared.places.Vtl.{Vtl}
@@ -12,17 +12,13 @@ use Rattle.vsm_core.specs.declared.request.PartCall.{PartCall}
 use Rattle.vsm_core.specs.declared.request.PartCall.TheVariants.{Modify}
 use Rattle.vsm_core.specs.declared.journal.Entry.TheVariants.{Refuse}
 use Rattle.vsm_base.specs.declared.places.Page.{Page}
-use Rattle.vsm_core.specs.declared.operation.Op.TheVariants.{Hypercall}
 use Rattle.vsm_core.specs.Blocks.{round}
-use Rattle.vsm_core.specs.Calls.{code_in}
-use Rattle.vsm_core.specs.Hypercalls.{input_value}
 use Rattle.vsm_core.specs.Outcomes.{Origin, Outcome}
-use Rattle.vsm_core.specs.Processor.{Vp, attempted, operation_at}
+use Rattle.vsm_core.specs.Processor.{Vp, attempted}
 use Rattle.vsm_core.specs.Protection.{asks_for, map_flags, page_refusals}
-use Rattle.vsm_core.specs.Registers.{get, private_of}
+use Rattle.vsm_core.specs.Registers.{get}
 use Rattle.vsm_core.specs.Reps.{acting}
 use Rattle.vsm_core.specs.Served.{answer, after, block}
-use Rattle.vsm_core.specs.State.{State}
 use Rattle.vsm_core.specs.Tree.{Tree, Ends, Asks, Wants}
 use Rattle.vsm_core.specs.Whole.{Flat}
 
@@ -36,10 +32,6 @@ abbrev pub other_level : Vtl → Vtl
 other_level Zero = One
 other_level One = Zero
 
--- unless level 1 was enabled, the registers stay that are the other level's own
-abbrev pub KeepsOther : State → State → Type 0
-KeepsOther old new = new.enabled ≡ old.enabled → private_of new.registers (other_level old.active) ≡ private_of old.registers (other_level old.active)
-
 -- all stays but RAX and the active level's Rip
 pub record KeepsTheRest (from : Origin) (o : Outcome) : Type 0 where
   pub registers : (level : Vtl) (name : Name) → ¬ ((level ≡ from.state.active) × (name ≡ names.Rip)) → name ≢ names.Rax → get o.state.registers level name ≡ get from.state.registers level name
@@ -51,17 +43,6 @@ pub record KeepsTheRest (from : Origin) (o : Outcome) : Type 0 where
 abbrev pub after_attempts : Program → Vp → List (PartitionState × Flat) → Vp
 after_attempts program v [] = v
 after_attempts program v (e ∷ es) = after_attempts program (attempted program v e.0 e.1).vp es
-
--- level 1 sets no register of level 0 by a call
-abbrev pub SetsNone : Vtl → Program → Vp → Type 0
-SetsNone One program v = Unit {0}
-SetsNone Zero program v = operation_at program v.state ≡ Some Hypercall → code_in (input_value v.state) ≢ 0x0051
-
--- the processor has started, each of them begins at the other level, none enables level 1, and none sets registers of this level by a call
-abbrev pub IsAway : Vtl → Program → Vp → List (PartitionState × Flat) → Type 0
-IsAway level program v [] = Unit {0}
-IsAway level program v (e ∷ es) =
-    (v.started ≡ true) × (v.state.active ≡ other_level level) × ((attempted program v e.0 e.1).vp.state.enabled ≡ v.state.enabled) × SetsNone level program v × IsAway level program (attempted program v e.0 e.1).vp es
 
 -- a refused request changes nothing, and the journal says why
 pub record RefusesAll (s : PartitionState) (r : Request) : Type 0 where

@@ -7,6 +7,7 @@ pub mod Contexts
 pub mod Controllers
 pub mod Entries
 pub mod Fills
+pub mod Hits
 pub mod Hypercalls
 pub mod Interrupts
 pub mod Journal

@@ -1,5 +1,6 @@
 -- The input VTL byte of a call, by which the caller names the level that it means (TLFS, HV_INPUT_VTL).
 use Rattle.std.specs.Prelude.{ℕ, ◌/◌, ◌%◌, ◌^◌, ◌==◌, ◌&&◌, ◌||◌, Bool, true, false, not, if◌then◌else◌, nat_lt, List, slice_index}
+use Rattle.vsm_base.specs.Levels.{level_number}
 use Rattle.vsm_base.specs.declared.places.Vtl.{Vtl}
 use Rattle.vsm_base.specs.declared.places.Vtl.TheVariants.{Zero, One}
 use Rattle.vsm_core.specs.Partition.{byte_in, padding_in}
@@ -30,3 +31,7 @@ target_level caller words = level_meant caller (slice_index words 1)
 abbrev pub is_above : Vtl → Vtl → Bool
 is_above One Zero = true
 is_above _ _ = false
+
+-- the one level is the other
+abbrev pub is_level : Vtl → Vtl → Bool
+is_level one other = level_number one == level_number other

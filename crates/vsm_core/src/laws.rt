@@ -1,5 +1,5 @@
 // Laws of the definitions. Each function's contract is the law; it computes nothing.
-ghost use Rattle.std.specs.Prelude.{ℕ, List, [], ◌++◌, ◌≡◌, ◌≢◌, ◌⊎◌, ◌+◌, ◌<◌, ◌≤◌, false, length, take, Some, None};
+ghost use Rattle.std.specs.Prelude.{ℕ, List, ◌++◌, ◌≡◌, ◌≢◌, ◌⊎◌, ◌+◌, ◌<◌, ◌≤◌, false, length, take, Some, None};
 ghost use Rattle.vsm_base.specs.declared.places.Vtl.{Vtl};
 ghost use Rattle.vsm_base.specs.declared.status.HvStatus.{HvStatus};
 ghost use Rattle.vsm_base.specs.declared.status.TheConstants.HvStatus.{SUCCESS};
@@ -7,14 +7,14 @@ ghost use Rattle.vsm_core.specs.AtOnce.{SameDid, IsInStep};
 ghost use Rattle.vsm_core.specs.Blocks.{IsWhole as IsWholeJournal};
 ghost use Rattle.vsm_core.specs.Entries.{words_by_entries};
 ghost use Rattle.vsm_core.specs.Hypercalls.{input_value, refused_call};
-ghost use Rattle.vsm_core.specs.Keeps.{EndsIn, KeepsTheRest, RefusesAll, RefusesRest, after_attempts, IsAway};
+ghost use Rattle.vsm_core.specs.Keeps.{EndsIn, KeepsTheRest, RefusesAll, RefusesRest};
 ghost use Rattle.vsm_core.specs.Processor.{Vp, acts};
 ghost use Rattle.vsm_base.specs.declared.name.Name.{Name};
 ghost use Rattle.vsm_base.specs.declared.name.Name.TheVariants.{Rcx};
 ghost use Rattle.vsm_core.specs.Calls.{start_in, count_in};
 ghost use Rattle.vsm_core.specs.Fills.{Cached};
 ghost use Rattle.vsm_core.specs.RegisterCalls.{Setting, all_set, set_refusals, get_refusals, set_slice, got_slice, part_outcome};
-ghost use Rattle.vsm_core.specs.Registers.{IsWhole, get, private_of};
+ghost use Rattle.vsm_core.specs.Registers.{IsWhole, get};
 ghost use Rattle.vsm_core.specs.Reps.{acting, refusing};
 ghost use Rattle.vsm_core.specs.Protection.{IsSlice, owed};
 ghost use Rattle.vsm_core.specs.Served.{answer, after, block, state_after, AreServed, joined};
@@ -97,13 +97,6 @@ pub fn parts_go_on()
         → get (part_outcome from state does next).state.registers level name ≡ get state.registers level name }
     ensures start { (from : Origin) (state : State) (does : List Cached) (next : ℕ) → IsWhole state.registers → next < 4096 → start_in (input_value (part_outcome from state does next).state) ≡ next }
     ensures count { (from : Origin) (state : State) (does : List Cached) (next : ℕ) → IsWhole state.registers → next < 4096 → count_in (input_value (part_outcome from state does next).state) ≡ count_in (input_value from.state) }
-{}
-
-/// While a level isn't active its own registers come back as they were, whatever the attempts of the other level do and
-/// whatever is answered, unless level 1 is enabled meanwhile or sets registers of level 0 by a call.
-pub fn levels_keep_their_registers()
-    ensures { (level : Vtl) (program : Program) (v : Vp) (attempts : List (PartitionState × Flat)) → IsAway level program v attempts
-        → private_of (after_attempts program v attempts).state.registers level ≡ private_of v.state.registers level }
 {}
 
 /// The journal of requests that were served one after the other, from a partition without protection or rounds on, is whole:

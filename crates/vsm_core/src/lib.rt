@@ -15,9 +15,9 @@ mod view;
 pub use event::{Event, PendingWord, Phase};
 pub use journal::Entry;
 pub use laws::{
-    attempts_are_short, attempts_are_sound, attempts_are_whole, levels_keep_their_registers,
-    parts_go_on, refused_calls_keep_the_rest, refused_elements_keep_the_rest,
-    refused_requests_keep_the_rest, requests_add_few_entries, served_journals_are_whole,
+    attempts_are_short, attempts_are_sound, attempts_are_whole, parts_go_on,
+    refused_calls_keep_the_rest, refused_elements_keep_the_rest, refused_requests_keep_the_rest,
+    requests_add_few_entries, served_journals_are_whole,
 };
 pub use mark::{Denial, Ending, EomWord, Grant, GuestFault, Mark, Posted, What};
 pub use note::{MemNote, Note, RegNote};

@@ -1,6 +1,5 @@
 -- A level that is away keeps the registers of its own.
-use Rattle.std.proofs.Common.{◌≡◌, ◌∙◌, ◌++◌, ◌&&◌, ◌||◌, ℕ, Bool, true, false, not, cond, Option, Some, None, List, [], ◌∷◌, length, take, drop, slice_set, refl, sym, ap, subst, arith, ◌≢◌, ◌==◌, is_none}
-use Rattle.std.proofs.lemmas.Bool.Decides.{nat_tests}
+use Rattle.std.proofs.Common.{◌≡◌, ◌∙◌, ◌++◌, ◌&&◌, ◌||◌, ℕ, Bool, true, false, not, cond, Option, Some, None, List, [], ◌∷◌, length, take, drop, slice_set, refl, sym, ap, subst, arith, ◌≢◌}
 use Rattle.std.specs.List.{list_any}
 use Rattle.vsm_base.specs.Names.{is_shared}
 use Rattle.vsm_base.specs.declared.name.Name.{Name}
@@ -20,19 +19,19 @@ use Rattle.vsm_core.specs.Calls.{code_in, result_value}
 use Rattle.vsm_core.specs.Contexts.{enabled_by, has_level, is_legal_context, values_of, with_context}
 use Rattle.vsm_core.specs.Fills.{Cached}
 use Rattle.vsm_core.specs.Hypercalls.{input_value, own_context, replied, with_result}
-use Rattle.vsm_core.specs.Keeps.{IsAway as IsAwayAndSetsNone, SetsNone, KeepsOther, after_attempts, other_level}
+use Rattle.vsm_core.specs.Keeps.{after_attempts, other_level}
 use Rattle.vsm_core.specs.Outcomes.{Origin, Outcome}
 use Rattle.vsm_core.specs.Processor.{Vp, attempted, operation_at, origin_of}
 use Rattle.vsm_core.specs.RegisterCalls.{Setting, all_set, all_emptied, header_refusal, names_one, register_of, set_named, set_one, set_refusals, set_slice, settings, slice_end, slice_outcome}
 use Rattle.vsm_core.specs.Registers.{Registers, private_of, private_place, shared_place, with_private}
 use Rattle.vsm_core.specs.Reps.{RepEnd, Refused, GoesOn, Complete, acting, with_start}
 use Rattle.vsm_core.specs.State.{State}
-use Rattle.vsm_core.specs.Targets.{target_level}
+use Rattle.vsm_core.specs.Targets.{is_level, target_level}
 use Rattle.vsm_core.specs.Whole.{Flat}
-use Rattle.vsm_core.proofs.KeptAttempts.{attempt-keeps}
 use Rattle.vsm_core.proofs.KeptLevels.{Stays, legal-then-on, put_legal-stays}
-use Rattle.vsm_laws.specs.Changes.{IsAway, SparesOwn, SparesZero, done_by, done_of, is_kept, is_level, level_named, names_kept, sets_some}
+use Rattle.vsm_laws.specs.Changes.{IsAway, SparesOwn, SparesZero, done_by, done_of, is_kept, level_named, names_kept}
 use Rattle.vsm_laws.specs.ReadWords.{EndsReading, words_read}
+use Rattle.vsm_laws.proofs.KeptAttempts.{KeepsOther, attempt-keeps, call-keeps}
 use Rattle.vsm_laws.proofs.Reading.{attempted-so, reading-any, reading-so, refused-ends, tree-so}
 use Rattle.vsm_laws.proofs.SetCalls.{hypercall-so}
 
@@ -155,6 +154,12 @@ pub is-hypercall : (op : Op) → is_hypercall op ≡ true → op ≡ Hypercall
 is-hypercall Hypercall e = refl
 is-hypercall _ e = cc
 
+-- an attempt of another operation keeps what is the other level's
+other-keeps : (from : Origin) (op : Op) → is_hypercall op ≡ false → EndsReading (λ words o. KeepsOther from.state o.state) [] (attempt from op)
+other-keeps from op e =
+    let other : op ≢ Hypercall = λ is. let no : true ≡ false = sym (ap is_hypercall is) ∙ e in cc in
+    reading-any (λ (o : Outcome). KeepsOther from.state o.state) [] (attempt from op) (attempt-keeps from op other)
+
 abbrev KeepsOwn : Origin → Op → List ℕ → Outcome → Type 0
 KeepsOwn from op words o = (op ≡ Hypercall → SparesZero from words) → KeepsOther from.state o.state
 
@@ -164,12 +169,12 @@ zero-by from op true e one =
     subst (λ o. EndsReading (KeepsOwn from o) [] (attempt from o)) (sym is)
     (reading-so (KeepsZero from) (KeepsOwn from Hypercall) (λ words o h spares same. rw one (h (spares refl))) [] (attempt from Hypercall) (hypercall-zero from one))
 zero-by from op false e one =
-    reading-so (λ words o. KeepsOther from.state o.state) (KeepsOwn from op) (λ words o h spares. h) [] (attempt from op)
-    (reading-any (λ (o : Outcome). KeepsOther from.state o.state) [] (attempt from op) (attempt-keeps from op (λ is. let no : true ≡ false = sym (ap is_hypercall is) ∙ e in cc)))
+    reading-so (λ words o. KeepsOther from.state o.state) (KeepsOwn from op) (λ words o h spares. h) [] (attempt from op) (other-keeps from op e)
 
 -- and one of level 0 level 1's
-one-by : (from : Origin) (op : Op) → from.state.active ≡ Zero → EndsReading (λ words o. KeepsOther from.state o.state) [] (attempt from op)
-one-by from op zero = reading-any (λ (o : Outcome). KeepsOther from.state o.state) [] (attempt from op) (attempt-keeps from op (λ is one. let no : Zero ≡ One = sym zero ∙ one in cc))
+one-by : (from : Origin) (op : Op) (b : Bool) → is_hypercall op ≡ b → from.state.active ≡ Zero → EndsReading (λ words o. KeepsOther from.state o.state) [] (attempt from op)
+one-by from op true e zero = subst (λ o. EndsReading (λ words end. KeepsOther from.state end.state) [] (attempt from o)) (sym (is-hypercall op e)) (call-keeps from zero)
+one-by from op false e zero = other-keeps from op e
 
 other-twice : (level : Vtl) → other_level (other_level level) ≡ level
 other-twice Zero = refl
@@ -179,7 +184,7 @@ once-keeps : (level : Vtl) (program : Program) (v : Vp) (s : PartitionState) (fl
     → KeepsOther v.state (attempted program v s flat).vp.state
 once-keeps One program v s flat started zero spares =
     attempted-so (λ words state. KeepsOther v.state state) program v s flat started (λ words e. refl)
-    (tree-so (λ words o. KeepsOther v.state o.state) (origin_of v) (operation_at program v.state) (λ e. refl) (λ op is. one-by (origin_of v) op zero))
+    (tree-so (λ words o. KeepsOther v.state o.state) (origin_of v) (operation_at program v.state) (λ e. refl) (λ op is. one-by (origin_of v) op (is_hypercall op) refl zero))
 once-keeps Zero program v s flat started one spares =
     let from = origin_of v in
     let Keeps : List ℕ → State → Type 0 = λ words state. (operation_at program v.state ≡ Some Hypercall → SparesZero from words) → KeepsOther v.state state in
@@ -195,27 +200,6 @@ away-keeps level program v (e ∷ es) away =
     let own : other_level v.state.active ≡ level = ap other_level away.1 ∙ other-twice level in
     let kept = once-keeps level program v e.0 e.1 away.0 away.1 away.3 away.2 in
     away-keeps level program next es away.4 ∙ subst (λ l. private_of next.state.registers l ≡ private_of v.state.registers l) own kept
-
--- a call by another code has no element that is done
-none-done : (test : Name → Bool) (set good : Bool) (done : List Setting) → set ≡ false → list_any (names_kept test) (cond (set && good) done []) ≡ false
-none-done test false good done e = refl
-none-done test true good done e = cc
-
-others-set-none : (test : Name → Bool) (from : Origin) (words : List ℕ) → code_in (input_value from.state) ≢ 0x0051 → sets_some test from Hypercall words ≡ false
-others-set-none test from words other =
-    none-done test (code_in (input_value from.state) == 0x0051) (is_none (header_refusal from (take 2 words))) (done_of from (take 2 words) (settings (drop 2 words))) (grind (arith, nat_tests, other))
-
-none-and : (b c : Bool) → c ≡ false → (b && c) ≡ false
-none-and true c e = e
-none-and false c e = refl
-
-spares-by : (level : Vtl) (program : Program) (v : Vp) (words : List ℕ) → SetsNone level program v → SparesOwn level program v words
-spares-by One program v words none = tt
-spares-by Zero program v words none = λ is. none-and (is_level (level_named (origin_of v) words) Zero) (sets_some is_own (origin_of v) Hypercall words) (others-set-none is_own (origin_of v) words (none is))
-
-pub asks-less : (level : Vtl) (program : Program) (v : Vp) (es : List (PartitionState × Flat)) → IsAwayAndSetsNone level program v es → IsAway level program v es
-asks-less level program v [] away = tt
-asks-less level program v (e ∷ es) away = (away.0, away.1, away.2, spares-by level program v (words_read program v e.0 e.1) away.3, asks-less level program (attempted program v e.0 e.1).vp es away.4)
 
 pub configuration-names-none : (test : Name → Bool) (s : Setting) → register_of s.number ≡ Some PartitionConfig → names_kept test s ≡ false
 configuration-names-none test s is = rw is refl

@@ -1,5 +1,5 @@
 -- Registers that a change of others leaves.
-use Rattle.std.proofs.Common.{◌≡◌, ◌≢◌, ◌<◌, ◌==◌, ◌&&◌, ◌||◌, ℕ, suc, Bool, true, false, cond, List, [], ◌∷◌, length, refl, sym, arith, lit<, get_or, slice_set, slice_index}
+use Rattle.std.proofs.Common.{◌≡◌, ◌≢◌, ◌<◌, ◌&&◌, ◌||◌, ℕ, Bool, true, false, cond, length, refl, sym, arith, lit<, get_or, slice_set, slice_index}
 use Rattle.std.proofs.lemmas.Bool.Decides.{nat_tests}
 use Rattle.std.proofs.lemmas.List.{get_or-set_other}
 use Rattle.vsm_base.specs.declared.name.Name.{Name}
@@ -7,16 +7,10 @@ use Rattle.vsm_base.specs.declared.name.Name.TheVariants as names
 use Rattle.vsm_base.specs.declared.places.Vtl.{Vtl}
 use Rattle.vsm_base.specs.declared.places.Vtl.TheVariants.{Zero, One}
 use Rattle.vsm_base.specs.Names.{number_of, all_names, is_shared}
-use Rattle.vsm_core.specs.Registers.{Registers, get, put, private_of, with_private, place_among, shared_names, private_names, shared_place, private_place}
-use Rattle.vsm_laws.specs.Changes.{is_same, is_level, is_common}
-
-at_head : (o a b x y n : ℕ) → (x < n → x ≡ y → a ≡ b) → cond (o == a) 0 (suc x) < suc n → cond (o == a) 0 (suc x) ≡ cond (o == b) 0 (suc y) → a ≡ b
-at_head o a b x y n later within same = grind (arith, nat_tests)
-
-place-number : (list : List Name) (a b : Name) → place_among list a < length list → place_among list a ≡ place_among list b → number_of a ≡ number_of b
-place-number [] a b within same = absurd (omega arith)
-place-number (o ∷ os) a b within same =
-    at_head (number_of o) (number_of a) (number_of b) (place_among os a) (place_among os b) (length os) (place-number os a b) within same
+use Rattle.vsm_core.specs.Registers.{Registers, get, put, private_of, with_private, shared_names, private_names, shared_place, private_place}
+use Rattle.vsm_core.proofs.Places.{place-number}
+use Rattle.vsm_core.specs.Targets.{is_level}
+use Rattle.vsm_laws.specs.Changes.{is_same, is_common}
 
 shared-within : (name : Name) → is_shared name ≡ true → shared_place name < length shared_names
 unfolding shared_place shared_names all_names

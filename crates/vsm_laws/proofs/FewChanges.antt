@@ -39,12 +39,12 @@ use Rattle.vsm_core.specs.Registers.{get as get_in, is_legal}
 use Rattle.vsm_core.specs.Reps.{RepEnd, Refused, GoesOn, Complete, acting, with_start}
 use Rattle.vsm_core.specs.State.{State, get, put, put_legal, gone_to, gone_on, may_name, operand, rip_of, word_of}
 use Rattle.vsm_core.specs.Switch.{assist_page, by_call, by_interrupt, called, is_zero, may_call, may_return, restored_from, returned, with_active, with_pair}
-use Rattle.vsm_core.specs.Targets.{target_level}
+use Rattle.vsm_core.specs.Targets.{is_level, target_level}
 use Rattle.vsm_core.specs.Tree.{Tree, Ends, Asks, Wants}
 use Rattle.vsm_core.specs.Whole.{Flat}
 use Rattle.vsm_core.proofs.KeptLevels.{EndsIn-then_, EndsIn-cond, EndsIn-asks_all, Q-cond, gone_on-stays, legal-then-on, put_legal-stays}
 use Rattle.vsm_core.proofs.KeptRegisters.{if-legal, put_legal-rax, put_legal-rcx}
-use Rattle.vsm_laws.specs.Changes.{NoneChanges, done_by, is_common, is_kept, is_level, is_new, is_same, level_named, may_change, names_kept, sets_alone, sets_leaving, sets_some, sets_staying}
+use Rattle.vsm_laws.specs.Changes.{NoneChanges, done_by, is_common, is_kept, is_new, is_same, level_named, may_change, names_kept, sets_alone, sets_leaving, sets_some, sets_staying}
 use Rattle.vsm_laws.specs.ReadWords.{EndsReading, with_read, words_read}
 use Rattle.vsm_laws.proofs.Away.{all-active, done-here, is_hypercall, is-hypercall, neither}
 use Rattle.vsm_laws.proofs.Changing.{put-keeps}

@@ -3,6 +3,7 @@ pub mod Changing
 pub mod DeniedStarts
 pub mod FewChanges
 pub mod FlushCalls
+pub mod KeptAttempts
 pub mod PageWords
 pub mod Reading
 pub mod RefusedAtOnce

@@ -1,7 +1,6 @@
 -- Which registers an attempt may change.
 use Rattle.std.specs.Prelude.{ℕ, ◌≡◌, ◌==◌, ◌&&◌, ◌||◌, Bool, true, false, not, if◌then◌else◌, Some, is_none, is_some, List, [], ◌∷◌, take, drop}
 use Rattle.std.specs.List.{list_any}
-use Rattle.vsm_base.specs.Levels.{level_number}
 use Rattle.vsm_base.specs.Names.{is_shared, number_of}
 use Rattle.vsm_base.specs.declared.name.Name.{Name}
 use Rattle.vsm_base.specs.declared.name.Name.TheVariants as names
@@ -16,7 +15,7 @@ use Rattle.vsm_core.specs.RegisterCalls.{Setting, header_refusal, names_one, reg
 use Rattle.vsm_core.specs.Reps.{acting}
 use Rattle.vsm_core.specs.State.{State}
 use Rattle.vsm_core.specs.Switch.{restored_from}
-use Rattle.vsm_core.specs.Targets.{target_level}
+use Rattle.vsm_core.specs.Targets.{is_level, target_level}
 use Rattle.vsm_core.specs.Whole.{Flat}
 use Rattle.vsm_core.specs.declared.operation.Op.{Op}
 use Rattle.vsm_core.specs.declared.operation.Op.TheVariants.{Set, Load, Ack, Hypercall, VtlReturn}
@@ -28,9 +27,6 @@ use Rattle.vsm_laws.specs.ReadWords.{words_read}
 
 abbrev pub is_same : Name → Name → Bool
 is_same one other = number_of one == number_of other
-
-abbrev pub is_level : Vtl → Vtl → Bool
-is_level one other = level_number one == level_number other
 
 -- what one level has by this name is what the other has
 abbrev pub is_common : Vtl → Vtl → Name → Bool

@@ -4,7 +4,7 @@ ghost use Rattle.vsm_base.specs.declared.name.Name.{Name};
 ghost use Rattle.vsm_base.specs.declared.name.Name.TheVariants.{Rip};
 ghost use Rattle.vsm_base.specs.declared.places.Vtl.{Vtl};
 ghost use Rattle.vsm_core.specs.Attempt.{attempt};
-ghost use Rattle.vsm_core.specs.Keeps.{EndsIn, IsAway as IsAwayAndSetsNone, after_attempts};
+ghost use Rattle.vsm_core.specs.Keeps.{EndsIn, after_attempts};
 ghost use Rattle.vsm_core.specs.Outcomes.{Origin};
 ghost use Rattle.vsm_core.specs.Processor.{Vp};
 ghost use Rattle.vsm_core.specs.RegisterCalls.{Setting, register_of};
@@ -20,15 +20,12 @@ ghost use Rattle.vsm_laws.specs.ReadWords.{EndsReading};
 /// While a level isn't active its own registers come back as they were, whatever the attempts of the other level do and
 /// whatever they find, unless level 1 is enabled meanwhile, or a call of level 1 sets one of them: one of the call's
 /// elements is done and names it (`back`). An element that is refused isn't done, and that of the partition's
-/// configuration names no register of a level (`configuration`). It is enough that level 1 sets no registers by calls
-/// (`asks_less`).
+/// configuration names no register of a level (`configuration`).
 pub fn own_registers_come_back()
     ensures back { (level : Vtl) (program : Program) (v : Vp) (attempts : List (PartitionState × Flat))
         → IsAway level program v attempts
         → private_of (after_attempts program v attempts).state.registers level
         ≡ private_of v.state.registers level }
-    ensures asks_less { (level : Vtl) (program : Program) (v : Vp) (attempts : List (PartitionState × Flat))
-        → IsAwayAndSetsNone level program v attempts → IsAway level program v attempts }
     ensures configuration { (test : Name → Bool) (s : Setting) → register_of s.number ≡ Some PartitionConfig
         → names_kept test s ≡ false }
 {}
