@@ -1,7 +1,7 @@
 -- What holds at each end of a call that goes by slices.
 use Rattle.std.proofs.Common.{◌≡◌, ◌∙◌, ◌≤◌, ◌<◌, ◌+◌, ◌*◌, ◌-◌, ◌/◌, ◌%◌, ◌==◌, ◌||◌, ◌++◌, ℕ, zero, suc, Bool, true}
 use Rattle.std.proofs.Common.{false, cond, Option, Some, None, List, [], ◌∷◌, length, take, drop, refl, sym, ap}
-use Rattle.std.proofs.Common.{subst, arith, append_assoc, length-append}
+use Rattle.std.proofs.Common.{subst, arith, append_assoc}
 use Rattle.std.proofs.lemmas.Bool.Decides.{nat_tests}
 use Rattle.std.proofs.lemmas.List.{append-nil, length-map}
 use Rattle.vsm_base.specs.Masks.{allows}
@@ -42,7 +42,7 @@ use Rattle.vsm_laws.specs.Slices.{IsAdmitted, behind_header, call_refusals, goes
 use Rattle.vsm_laws.specs.Slices.{get_call_refusals, get_slice_refusals, mask_call_refusals, partition_refusal}
 use Rattle.vsm_laws.specs.Slices.{set_call_refusals, set_slice_refusals, slice_refusals}
 use Rattle.vsm_laws.proofs.Away.{two-words}
-use Rattle.vsm_laws.proofs.Reading.{reading-any, reading-so, refused-ends}
+use Rattle.vsm_laws.proofs.Reading.{found-suc, reading-any, reading-so, refused-ends}
 use Rattle.vsm_laws.proofs.ServedEnds.{EndsServed, served-any}
 use Rattle.vsm_laws.proofs.SetCalls.{row-code}
 use Rattle.vsm_laws.proofs.SliceAnswers.{IsLook, Status, Config, IsSliceEnd, IsWrite, config-ends, header-ends}
@@ -73,10 +73,6 @@ pub served-if : {A : Type 0} (Q : List ℕ → A → Type 0) (s : PartitionState
     → EndsServed Q s words (cond b t u)
 served-if Q s words true t u h g = h refl
 served-if Q s words false t u h g = g refl
-
-found-suc : (found : List ℕ) (x count : ℕ) (words : List ℕ) → length words ≡ length (found ++ x ∷ []) + count
-    → length words ≡ length found + suc count
-found-suc found x count words long = omega (arith, long, length-append found (x ∷ []))
 
 -- words that are read one after the other
 pub served-reads : {A : Type 0} (Q : List ℕ → A → Type 0) (s : PartitionState) (page index count : ℕ)
