@@ -24,19 +24,19 @@ use Rattle.vsm_core.specs.declared.request.PartCall.{PartCall}
 use Rattle.vsm_core.specs.declared.request.PartCall.TheVariants.{ReadStatus, ReadConfig, WriteConfig}
 use Rattle.vsm_core.specs.declared.request.Reply.{Reply}
 use Rattle.vsm_core.specs.declared.request.Request.{Request}
-use Rattle.vsm_core.specs.Attempt.{admitted, attempt, behind_output, behind_page_mask, by_input, by_memory, by_refusal, by_registers, gets_by, gets_or_asks, hypercall_tree, interrupts, interrupts_by, left_for, left_with, looked_by, puts_out, reads_input, reads_slice, refused, requests, served, sets_by, sets_or_asks}
+use Rattle.vsm_core.specs.Attempt.{admitted, attempt, behind_output, behind_page_mask, by_input, by_memory, by_refusal, by_registers, gets_by, gets_or_asks, interrupts, interrupts_by, left_for, left_with, looked_by, puts_out, reads_input, reads_slice, refused, requests, served, sets_by, sets_or_asks}
 use Rattle.vsm_core.specs.Blocks.{ask, clear, round}
-use Rattle.vsm_core.specs.Calls.{Check, Row, rows, row_of, code_in, count_in, done_in, start_in, status_in, is_fast, first_failed, result_value}
+use Rattle.vsm_core.specs.Calls.{Check, Row, rows, row_of, code_in, done_in, status_in, is_fast, first_failed, result_value}
 use Rattle.vsm_core.specs.Controllers.{writes}
 use Rattle.vsm_core.specs.Fills.{Cached}
 use Rattle.vsm_core.specs.Hypercalls.{input_value, input_address, output_address, has_output, fast_words, input_refusal, asked_of, refused_call, replied, request_of, result_outcome}
 use Rattle.vsm_core.specs.Interrupts.{vector_in, processors_in, interrupted_level, interrupt_checks, those_in, interrupt_steps}
 use Rattle.vsm_core.specs.Keeps.{EndsIn, KeepsTheRest, RefusesAll, RefusesRest, asks_of}
-use Rattle.vsm_core.specs.Outcomes.{Origin, Outcome, Refusal, faulted, held_outcome, denied_outcome}
+use Rattle.vsm_core.specs.Outcomes.{Origin, Outcome, Refusal, faulted}
 use Rattle.vsm_core.specs.Protection.{config_checks}
 use Rattle.vsm_core.specs.RegisterCalls.{Setting, all_emptied, all_set, count_of, get_refusal, get_refusals, got_slice, got_words, header_refusal, look_in, name_checks, numbers, past_of, read_call, register_checks, register_of, set_refusal, set_refusals, set_slice, setting_checks, settings, slice_end, slice_numbers, slice_outcome, slice_output, start_of, unless_refused, value_words, write_call, write_in}
-use Rattle.vsm_core.specs.Reps.{RepEnd, Refused, GoesOn, Complete, acting, first_word, refusing, rep_end, replied_end, slice_past, unrefused_end, words_between}
-use Rattle.vsm_core.specs.Served.{Service, answer, block, judged, serve, write_config}
+use Rattle.vsm_core.specs.Reps.{RepEnd, Refused, GoesOn, Complete, acting, first_word, refusing, rep_end, replied_end, slice_past, words_between}
+use Rattle.vsm_core.specs.Served.{Service, answer, block, judged, write_config}
 use Rattle.vsm_core.specs.State.{State, privilege_of}
 use Rattle.vsm_core.specs.Status.{protects}
 use Rattle.vsm_core.specs.Targets.{target_level}

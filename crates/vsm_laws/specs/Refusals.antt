@@ -1,7 +1,6 @@
 -- What a refused hypercall leaves: what its elements that are done put out and set, and its result.
 use Rattle.std.specs.Prelude.{ℕ, ◌≡◌, ◌≢◌, ◌+◌, ◌*◌, ◌/◌, ◌-◌, ◌%◌, ◌==◌, true, if◌then◌else◌, Some, List, ◌⊎◌, [], ◌∷◌, ◌++◌, flat_map, take, drop}
 use Rattle.std.specs.List.{fold}
-use Rattle.vsm_base.specs.declared.places.Limits.{Limits}
 use Rattle.vsm_core.specs.Calls.{code_in, done_in, status_in}
 use Rattle.vsm_core.specs.Controllers.{writes}
 use Rattle.vsm_core.specs.Hypercalls.{input_value, output_address}
@@ -22,7 +21,7 @@ use Rattle.vsm_core.specs.declared.operation.Program.{Program}
 use Rattle.vsm_core.specs.declared.partition_state.PartitionState.{PartitionState}
 use Rattle.vsm_core.specs.declared.request.Request.{Request}
 use Rattle.vsm_laws.specs.Changes.{level_named}
-use Rattle.vsm_laws.specs.ReadWords.{with_read, words_read}
+use Rattle.vsm_laws.specs.ReadWords.{with_read}
 
 -- the changes that were made, with a step's: it writes memory, posts to a word or takes from one
 abbrev pub with_change : List WordStep → WordStep → List WordStep
@@ -48,7 +47,8 @@ EndsChanging Q read made asked (Ends a) = Q read made asked a
 EndsChanging Q read made asked (Asks s k) =
     (x : ℕ) → EndsChanging Q (with_read read s x) (with_change made s) asked (k x)
 EndsChanging Q read made asked (Wants q k) =
-    (s : PartitionState) → EndsChanging Q read (made ++ flat_map change_by (block s q)) ((s, q) ∷ asked) (k (answer s q))
+    (s : PartitionState)
+    → EndsChanging Q read (made ++ flat_map change_by (block s q)) ((s, q) ∷ asked) (k (answer s q))
 
 -- how many elements a result value says were done by this attempt; it counts from the call's first
 abbrev pub done_here : Origin → ℕ → ℕ
@@ -82,12 +82,16 @@ abbrev pub AllRefused : Asked → Type 0
 AllRefused [] = Unit {0}
 AllRefused (r ∷ asked) = IsRefused r.0 r.1 × AllRefused asked
 
+-- where the attempt begins, with the registers that the elements which are done have set
+abbrev pub once_set : Origin → (read : List ℕ) → (value : ℕ) → Origin
+once_set from read value = record from { state = all_set (level_named from read) from.state (sets from read value) }
+
 -- the elements that are done have put out or set what they name, and emptied what that empties; all else stays but RAX
 -- and the active level's Rip, and so does the partition
-pub record LeavesTheDone (from : Origin) (read : List ℕ) (made : List WordStep) (asked : Asked) (value : ℕ) (o : Outcome)
-    : Type 0 where
+pub record LeavesTheDone (from : Origin) (read : List ℕ) (made : List WordStep) (asked : Asked) (value : ℕ)
+    (o : Outcome) : Type 0 where
   pub changes : made ≡ outputs from read value
-  pub keeps : KeepsTheRest (record from { state = all_set (level_named from read) from.state (sets from read value) }) o
+  pub keeps : KeepsTheRest (once_set from read value) o
   pub empties : o.does ≡ all_emptied (level_named from read) (sets from read value)
   pub requests : AllRefused asked
 
@@ -110,13 +114,15 @@ abbrev pub AreRefused : PartitionState → List (Request × List Entry) → Type
 AreRefused s [] = Unit {0}
 AreRefused s (r ∷ served) = IsRefused s r.0 × AreRefused (after s r.0) served
 
--- what stands then: of memory all but what was put out, all posted words, and the partition
-pub record LeavesTheWords (v : Vp) (s : PartitionState) (flat : Flat) (put : List WordStep) (did : Did Flat) : Type 0
-  where
-    pub memory : did.words.memory ≡ (fold (flat_after v.limits v.number) flat put).memory
-    pub posted : did.words.posted ≡ flat.posted
-    pub requests : AreRefused s did.served
+-- what a processor came to, where that is a result
+abbrev pub came_to_result : Vp → ℕ → Outcome
+came_to_result v value =
+    record { what = Result value; state = v.state; controllers = v.controllers; does = [] }
 
--- what a hypercall has put out that was made at once
-abbrev pub outputs_at_once : Program → Vp → PartitionState → Flat → (value : ℕ) → List WordStep
-outputs_at_once program v s flat value = outputs (origin_of v) (words_read program v s flat) value
+-- of memory all but what was put out, all posted words, the processor and the partition stay so
+pub record LeavesTheRest (v : Vp) (s : PartitionState) (flat : Flat) (read : List ℕ) (value : ℕ) (did : Did Flat)
+    : Type 0 where
+  pub memory : did.words.memory ≡ (fold (flat_after v.limits v.number) flat (outputs (origin_of v) read value)).memory
+  pub posted : did.words.posted ≡ flat.posted
+  pub keeps : KeepsTheRest (once_set (origin_of v) read value) (came_to_result did.vp value)
+  pub requests : AreRefused s did.served
