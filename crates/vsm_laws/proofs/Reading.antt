@@ -42,7 +42,7 @@ pub reading-if : {A : Type 0} (Q : List ℕ → A → Type 0) (words : List ℕ)
 reading-if Q words true t u h g = h refl
 reading-if Q words false t u h g = g refl
 
-found-suc : (found : List ℕ) (x count : ℕ) (words : List ℕ) → length words ≡ length (found ++ x ∷ []) + count → length words ≡ length found + suc count
+pub found-suc : (found : List ℕ) (x count : ℕ) (words : List ℕ) → length words ≡ length (found ++ x ∷ []) + count → length words ≡ length found + suc count
 found-suc found x count words long = omega (arith, long, length-append found (x ∷ []))
 
 -- words that are read one after the other

@@ -1,5 +1,5 @@
 -- What a refused hypercall leaves.
-use Rattle.std.proofs.Common.{◌≡◌, ◌≢◌, ◌≤◌, ◌<◌, ◌⊎◌, inl, inr, ◌∙◌, ◌+◌, ◌*◌, ◌/◌, ◌-◌, ◌%◌, ◌^◌, ◌==◌, ◌&&◌, ◌++◌, ℕ, zero, suc, Bool, true, false, not, cond, nat_lt, Option, Some, None, List, [], ◌∷◌, length, map, flat_map, take, drop, refl, sym, ap, subst, arith, lit<, length-append, append_assoc}
+use Rattle.std.proofs.Common.{◌≡◌, ◌≢◌, ◌≤◌, ◌<◌, ◌⊎◌, inl, inr, ◌∙◌, ◌+◌, ◌*◌, ◌/◌, ◌-◌, ◌%◌, ◌^◌, ◌==◌, ◌&&◌, ◌++◌, ℕ, zero, suc, Bool, true, false, not, cond, nat_lt, Option, Some, None, List, [], ◌∷◌, length, map, flat_map, take, drop, refl, sym, ap, subst, arith, lit<, append_assoc}
 use Rattle.std.proofs.lemmas.List.{append-nil, length-map}
 use Rattle.std.proofs.lemmas.Bool.Decides.{nat_tests}
 use Rattle.std.specs.List.{range_with_len}
@@ -26,7 +26,7 @@ use Rattle.vsm_core.specs.declared.request.Reply.{Reply}
 use Rattle.vsm_core.specs.declared.request.Request.{Request}
 use Rattle.vsm_core.specs.Attempt.{admitted, attempt, behind_output, behind_page_mask, by_input, by_memory, by_refusal, by_registers, gets_by, gets_or_asks, interrupts, interrupts_by, left_for, left_with, looked_by, puts_out, reads_input, reads_slice, refused, requests, served, sets_by, sets_or_asks}
 use Rattle.vsm_core.specs.Blocks.{ask, clear, round}
-use Rattle.vsm_core.specs.Calls.{Check, Row, rows, row_of, code_in, done_in, status_in, is_fast, first_failed, result_value}
+use Rattle.vsm_core.specs.Calls.{Check, Row, row_of, code_in, done_in, status_in, is_fast, first_failed, result_value}
 use Rattle.vsm_core.specs.Controllers.{writes}
 use Rattle.vsm_core.specs.Fills.{Cached}
 use Rattle.vsm_core.specs.Hypercalls.{input_value, input_address, output_address, has_output, fast_words, input_refusal, asked_of, refused_call, replied, request_of, result_outcome}
@@ -48,8 +48,8 @@ use Rattle.vsm_laws.specs.Changes.{level_named}
 use Rattle.vsm_laws.specs.ReadWords.{with_read}
 use Rattle.vsm_laws.specs.Refusals.{AllRefused, Asked, EndsChanging, IsRefused, LeavesTheDone, LeavesTheDoneIfRefused, change_by, done_here, outputs, put_out, sets, with_change}
 use Rattle.vsm_laws.proofs.Away.{two-words}
-use Rattle.vsm_laws.proofs.Reading.{refused-ends}
-use Rattle.vsm_laws.proofs.SetCalls.{row-code}
+use Rattle.vsm_laws.proofs.Reading.{found-suc, refused-ends}
+use Rattle.vsm_laws.proofs.SetCalls.{get-row, row-code, set-row}
 
 -- a result that doesn't refuse, or none
 abbrev IsFine : Outcome → Type 0
@@ -383,27 +383,7 @@ config-so from read s value (Some status) e refuses = λ result is other.
     let bad : status ≢ statuses.SUCCESS = λ good. other (result-fine from status 0 good result is) in
     leaves-none from read ((s, asked_of from (WriteConfig value)) ∷ []) result (result_outcome from from.state status 0) (none-done from read result done) (result-keeps from from.state [] status 0) refl (refuses bad, tt)
 
--- that of a get has a header of two words, and that of a set besides has elements of four
-get-row : (code : ℕ) (row : Row) → row_of code ≡ Some row → code ≡ 0x0050 → row.header / 8 ≡ 2
-unfolding row_of rows
-get-row code row e is =
-    let found : row_of 0x0050 ≡ Some row = subst (λ c. row_of c ≡ Some row) is e in
-    let get : Row = record { code = 0x0050; is_rep = true; may_be_fast = false; header = 16; element = 4; read = 4; output = 16 } in
-    let same : get ≡ row = cc in
-    ap (λ (r : Row). r.header / 8) (sym same)
-
-set-row : (code : ℕ) (row : Row) → row_of code ≡ Some row → code ≡ 0x0051 → (row.header / 8 ≡ 2) × (row.read ≡ 32)
-unfolding row_of rows
-set-row code row e is =
-    let found : row_of 0x0051 ≡ Some row = subst (λ c. row_of c ≡ Some row) is e in
-    let set : Row = record { code = 0x0051; is_rep = true; may_be_fast = false; header = 16; element = 32; read = 32; output = 0 } in
-    let same : set ≡ row = cc in
-    (ap (λ (r : Row). r.header / 8) (sym same), ap (λ (r : Row). r.read) (sym same))
-
 -- words that are read one after the other change nothing
-found-suc : (found : List ℕ) (x count : ℕ) (words : List ℕ) → length words ≡ length (found ++ x ∷ []) + count → length words ≡ length found + suc count
-found-suc found x count words long = omega (arith, long, length-append found (x ∷ []))
-
 read-whole : (size start past : ℕ) (words : List ℕ) → length words ≡ 0 + words_between size start past → size ≡ 32 → length words ≡ words_between 32 start past
 read-whole size start past words long is = let whole : length words ≡ 0 + words_between 32 start past = subst (λ n. length words ≡ 0 + words_between n start past) is long in omega (arith, whole)
 

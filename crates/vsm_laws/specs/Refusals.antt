@@ -87,7 +87,7 @@ abbrev pub once_set : Origin → (read : List ℕ) → (value : ℕ) → Origin
 once_set from read value = record from { state = all_set (level_named from read) from.state (sets from read value) }
 
 -- the elements that are done have put out or set what they name, and emptied what that empties; all else stays but RAX
--- and the active level's Rip, and so does the partition
+-- and the active level's Rip, and the partition refuses what it was asked
 pub record LeavesTheDone (from : Origin) (read : List ℕ) (made : List WordStep) (asked : Asked) (value : ℕ)
     (o : Outcome) : Type 0 where
   pub changes : made ≡ outputs from read value
@@ -119,7 +119,7 @@ abbrev pub came_to_result : Vp → ℕ → Outcome
 came_to_result v value =
     record { what = Result value; state = v.state; controllers = v.controllers; does = [] }
 
--- of memory all but what was put out, all posted words, the processor and the partition stay so
+-- the same of what was done at once: memory stays but for what was put out, and all posted words do
 pub record LeavesTheRest (v : Vp) (s : PartitionState) (flat : Flat) (read : List ℕ) (value : ℕ) (did : Did Flat)
     : Type 0 where
   pub memory : did.words.memory ≡ (fold (flat_after v.limits v.number) flat (outputs (origin_of v) read value)).memory
