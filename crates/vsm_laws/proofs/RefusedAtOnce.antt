@@ -1,8 +1,7 @@
 -- What a refused hypercall leaves that is made at once.
-use Rattle.std.proofs.Common.{◌≡◌, ◌≢◌, ◌∙◌, ◌+◌, ◌*◌, ◌/◌, ◌%◌, ◌==◌, ◌++◌, ℕ, suc, Bool, true, false, cond, Option, Some, None, List, [], ◌∷◌, length, flat_map, take, drop, refl, sym, ap, subst}
+use Rattle.std.proofs.Common.{◌≡◌, ◌≢◌, ◌∙◌, ◌+◌, ◌*◌, ◌/◌, ◌%◌, ◌++◌, ℕ, suc, Bool, true, false, cond, Option, Some, None, List, [], ◌∷◌, length, flat_map, drop, refl, sym, ap, subst}
 use Rattle.std.specs.List.{fold}
 use Rattle.std.proofs.lemmas.Grind.{fold-append}
-use Rattle.std.proofs.lemmas.List.{append-nil}
 use Rattle.std.proofs.Math.Seq.{drop-append_seam}
 use Rattle.vsm_base.specs.declared.places.Limits.{Limits}
 use Rattle.vsm_core.specs.declared.event.Event.{Event}
@@ -15,23 +14,22 @@ use Rattle.vsm_core.specs.declared.mark.Mark.{Mark}
 use Rattle.vsm_core.specs.declared.mark.What.{What}
 use Rattle.vsm_core.specs.declared.mark.What.TheVariants.{Again, Started, Reply as Result}
 use Rattle.vsm_core.specs.declared.operation.Op.{Op}
-use Rattle.vsm_core.specs.declared.operation.Op.TheVariants.{Hypercall}
 use Rattle.vsm_core.specs.declared.operation.Program.{Program}
 use Rattle.vsm_core.specs.declared.partition_state.PartitionState.{PartitionState}
 use Rattle.vsm_core.specs.Attempt.{attempt}
-use Rattle.vsm_core.specs.Calls.{code_in, status_in}
+use Rattle.vsm_core.specs.Calls.{status_in}
 use Rattle.vsm_core.specs.Controllers.{writes}
-use Rattle.vsm_core.specs.Hypercalls.{input_value, output_address}
+use Rattle.vsm_core.specs.Hypercalls.{output_address}
+use Rattle.vsm_core.specs.Keeps.{KeepsTheRest}
 use Rattle.vsm_core.specs.Outcomes.{Origin, Outcome}
 use Rattle.vsm_core.specs.Processor.{Vp, Did, answered, asking, attempted, came_to, does_all, mark_of, marked_or_ended, new_marks, operation_at, origin_of, saw, standing, start_mark, tree_of, wakes}
-use Rattle.vsm_core.specs.RegisterCalls.{got_words, slice_numbers, start_of}
+use Rattle.vsm_core.specs.RegisterCalls.{start_of}
 use Rattle.vsm_core.specs.Served.{after, answer, block}
 use Rattle.vsm_core.specs.Steps.{made as event_of}
-use Rattle.vsm_core.specs.Tree.{Tree, Ends, Asks, Wants, WordStep, Entering, Checking, Masking, Reading, Writing, Leaving, Posting, Taking}
+use Rattle.vsm_core.specs.Tree.{Tree, Ends, Asks, Wants, WordStep, Writing, Posting, Taking}
 use Rattle.vsm_core.specs.Whole.{Flat, answer_in, flat_after, posted_by_entry, with_entries}
-use Rattle.vsm_laws.specs.Changes.{level_named}
 use Rattle.vsm_laws.specs.ReadWords.{all_read, with_read, words_read}
-use Rattle.vsm_laws.specs.Refusals.{EndsChanging, IsRefusedAtOnce, LeavesTheDoneIfRefused, LeavesTheWords, change_by, done_here, outputs, outputs_of, outputs_at_once, with_change}
+use Rattle.vsm_laws.specs.Refusals.{AllRefused, Asked, EndsChanging, IsRefusedAtOnce, LeavesTheDoneIfRefused, LeavesTheRest, came_to_result, change_by, once_set, outputs, put_out, with_change}
 use Rattle.vsm_laws.proofs.RefusedCalls.{refused-leaves}
 
 -- memory and the posted words are the same
@@ -82,14 +80,9 @@ module _ (limits : Limits) (number : ℕ) where
   writes-post-none page index [] flat = refl
   writes-post-none page index (word ∷ words) flat = writes-post-none page (suc index) words (flat_after limits number flat (Writing page index word))
 
-  either-posts-none : (b : Bool) (made : List WordStep) (flat : Flat) → (by_changes flat made).posted ≡ flat.posted → (by_changes flat (cond b made [])).posted ≡ flat.posted
-  either-posts-none true made flat h = h
-  either-posts-none false made flat h = refl
-
   outputs-post-none : (from : Origin) (read : List ℕ) (value : ℕ) (flat : Flat) → (by_changes flat (outputs from read value)).posted ≡ flat.posted
   outputs-post-none from read value flat =
-      either-posts-none (code_in (input_value from.state) == 0x0050) (outputs_of from read (done_here from value)) flat
-      (writes-post-none (output_address from.state / 4096) (output_address from.state % 4096 / 8 + 2 * start_of from) (got_words from.state (level_named from read) (take (done_here from value) (slice_numbers from (drop 2 read)))) flat)
+      writes-post-none (output_address from.state / 4096) (output_address from.state % 4096 / 8 + 2 * start_of from) (put_out from read value) flat
 
 -- the mark of an attempt that came to a result
 last-mark : (stood : List Mark) (m mark : Mark) → drop (length stood) (stood ++ m ∷ []) ≡ mark ∷ [] → m ≡ mark
@@ -109,6 +102,11 @@ came-to-result (Again grant) v o mark value is left result = absurd (vain-no-res
 came-to-result Started v o mark value is left result = ap (λ (m : Mark). m.what) (last-mark (standing v) (start_mark v o) mark left) ∙ result
 came-to-result _ v o mark value is left result = ap (λ (m : Mark). m.what) (last-mark (standing v) (mark_of v o.what) mark left) ∙ result
 
+came-keeps : (what : What) (v : Vp) (o : Outcome) (start : Origin) (value : ℕ) → what ≡ Result value → KeepsTheRest start o → KeepsTheRest start (came_to_result (came_to what v o) value)
+came-keeps (Again grant) v o start value is h = cc
+came-keeps Started v o start value is h = cc
+came-keeps _ v o start value is h = record { registers = h.registers; active = h.active; enabled = h.enabled; controllers = h.controllers }
+
 saw-standing : (op : Option Op) (v : Vp) (e : Event) → standing (saw op v e) ≡ standing v
 saw-standing op v (events.Check generation) = refl
 saw-standing op v _ = refl
@@ -117,32 +115,47 @@ saw-standing op v _ = refl
 abbrev Does : Vp → PartitionState → Option Op → Vp → Flat → Tree Outcome → Did Flat
 Does own s op v flat t = does_all (answer_in own.limits own.number) (flat_after own.limits own.number) with_entries s op v flat t
 
-module _ (own : Vp) (from : Origin) (start : Flat) (mark : Mark) (value : ℕ) (result : mark.what ≡ Result value) (refuses : status_in value ≢ 0) where
-  did-so : (s : PartitionState) (op : Option Op) (v : Vp) (flat : Flat) (read : List ℕ) (made : List WordStep) (t : Tree Outcome)
-      → SameWords flat (by_changes own.limits own.number start made) → EndsChanging (LeavesTheDoneIfRefused from) read made t
+-- what is left of it leaves so, and the requests before are refused
+record LeavesSo (own : Vp) (start : Flat) (read : List ℕ) (value : ℕ) (s : PartitionState) (asked : Asked) (did : Did Flat) : Type 0 where
+  rest : LeavesTheRest own s start read value did
+  before : AllRefused asked
+
+module _ (own : Vp) (start : Flat) (mark : Mark) (value : ℕ) (result : mark.what ≡ Result value) (refuses : status_in value ≢ 0) where
+  did-so : (s : PartitionState) (op : Option Op) (v : Vp) (flat : Flat) (read : List ℕ) (made : List WordStep) (asked : Asked) (t : Tree Outcome)
+      → SameWords flat (by_changes own.limits own.number start made) → EndsChanging (LeavesTheDoneIfRefused (origin_of own)) read made asked t
       → drop (length (standing v)) (Does own s op v flat t).vp.marks ≡ mark ∷ []
-      → LeavesTheWords own.limits own.number start (outputs from (all_read own.limits own.number s flat read t) value) (Does own s op v flat t).words
-  did-so s op v flat read made (Ends o) same h left =
-      let put = (h value (came-to-result o.what v o mark value refl left result) refuses).changes in
+      → LeavesSo own start (all_read own.limits own.number s flat read t) value s asked (Does own s op v flat t)
+  did-so s op v flat read made asked (Ends o) same h left =
+      let is = came-to-result o.what v o mark value refl left result in
+      let leaves = h value is refuses in
       record {
-        memory = same.memory ∙ ap (λ steps. (by_changes own.limits own.number start steps).memory) put;
-        posted = same.posted ∙ ap (λ steps. (by_changes own.limits own.number start steps).posted) put ∙ outputs-post-none own.limits own.number from read value start;
+        rest = record {
+          memory = same.memory ∙ ap (λ steps. (by_changes own.limits own.number start steps).memory) leaves.changes;
+          posted = same.posted ∙ ap (λ steps. (by_changes own.limits own.number start steps).posted) leaves.changes ∙ outputs-post-none own.limits own.number (origin_of own) read value start;
+          keeps = came-keeps o.what v o (once_set (origin_of own) read value) value is leaves.keeps;
+          requests = tt;
+        };
+        before = leaves.requests;
       }
-  did-so s op v flat read made (Asks step k) same h left =
+  did-so s op v flat read made asked (Asks step k) same h left =
       let x = answer_in own.limits own.number flat step in
       let next : Vp = saw op v (event_of step x) in
-      did-so s op next (flat_after own.limits own.number flat step) (with_read read step x) (with_change made step) (k x) (step-same own.limits own.number step start flat made same) (h x)
+      did-so s op next (flat_after own.limits own.number flat step) (with_read read step x) (with_change made step) asked (k x) (step-same own.limits own.number step start flat made same) (h x)
       (subst (λ stood. drop (length stood) (Does own s op next (flat_after own.limits own.number flat step) (k x)).vp.marks ≡ mark ∷ []) (sym (saw-standing op v (event_of step x))) left)
-  did-so s op v flat read made (Wants q k) same h left =
-      did-so (after s q) op (answered (answer s q) (asking op v)) (with_entries flat (block s q)) read (made ++ flat_map change_by (block s q)) (k (answer s q))
-      (entries-same own.limits own.number (block s q) start flat made same) (h s) left
+  did-so s op v flat read made asked (Wants q k) same h left =
+      let so = did-so (after s q) op (answered (answer s q) (asking op v)) (with_entries flat (block s q)) read (made ++ flat_map change_by (block s q)) ((s, q) ∷ asked) (k (answer s q))
+      (entries-same own.limits own.number (block s q) start flat made same) (h s) left in
+      record {
+        rest = record { memory = so.rest.memory; posted = so.rest.posted; keeps = so.rest.keeps; requests = (so.before.0, so.rest.requests) };
+        before = so.before.1;
+      }
 
 acted-as : (b : Bool) (acted woken : Did Flat) → b ≡ true → cond b acted woken ≡ acted
 acted-as true acted woken is = refl
 acted-as false acted woken is = cc
 
 pub refused-at-once : (program : Program) (v : Vp) (s : PartitionState) (flat : Flat) (value : ℕ) → IsRefusedAtOnce program v s flat value
-    → LeavesTheWords v.limits v.number flat (outputs_at_once program v s flat value) (attempted program v s flat).words
+    → LeavesTheRest v s flat (words_read program v s flat) value (attempted program v s flat)
 unfolding attempted
 refused-at-once program v s flat value is =
     let from = origin_of v in
@@ -151,6 +164,6 @@ refused-at-once program v s flat value is =
     let woken : Did Flat = wakes (answer_in v.limits v.number) (flat_after v.limits v.number) with_entries s v flat in
     let same : attempted program v s flat ≡ acted = acted-as v.started acted woken is.started in
     let left : new_marks v acted.vp ≡ is.mark ∷ [] = ap (λ (did : Did Flat). new_marks v did.vp) (sym same) ∙ is.left in
-    let leaves : EndsChanging (LeavesTheDoneIfRefused from) [] [] (tree_of from op) = subst (λ o. EndsChanging (LeavesTheDoneIfRefused from) [] [] (tree_of from o)) (sym is.call) (refused-leaves from) in
-    subst (λ (did : Did Flat). LeavesTheWords v.limits v.number flat (outputs_at_once program v s flat value) did.words) (sym same)
-    (did-so v from flat is.mark value is.result is.refuses s op v flat [] [] (tree_of from op) (record { memory = refl; posted = refl }) leaves left)
+    let leaves : EndsChanging (LeavesTheDoneIfRefused from) [] [] [] (tree_of from op) = subst (λ o. EndsChanging (LeavesTheDoneIfRefused from) [] [] [] (tree_of from o)) (sym is.call) (refused-leaves from) in
+    subst (LeavesTheRest v s flat (words_read program v s flat) value) (sym same)
+    (did-so v flat is.mark value is.result is.refuses s op v flat [] [] [] (tree_of from op) (record { memory = refl; posted = refl }) leaves left).rest

@@ -1,5 +1,5 @@
 -- What a refused hypercall leaves.
-use Rattle.std.proofs.Common.{◌≡◌, ◌≢◌, ◌≤◌, ◌<◌, ◌⊎◌, inl, inr, ◌∙◌, ◌+◌, ◌*◌, ◌/◌, ◌-◌, ◌%◌, ◌^◌, ◌==◌, ◌&&◌, ◌++◌, ℕ, zero, suc, Bool, true, false, not, cond, nat_lt, Option, Some, None, List, [], ◌∷◌, length, map, flat_map, take, drop, refl, sym, ap, subst, arith, lit<, length-append, append_assoc}
+use Rattle.std.proofs.Common.{◌≡◌, ◌≢◌, ◌≤◌, ◌<◌, ◌⊎◌, inl, inr, ◌∙◌, ◌+◌, ◌*◌, ◌/◌, ◌-◌, ◌%◌, ◌^◌, ◌==◌, ◌&&◌, ◌++◌, ℕ, zero, suc, Bool, true, false, not, cond, nat_lt, Option, Some, None, List, [], ◌∷◌, length, map, flat_map, take, drop, refl, sym, ap, subst, arith, lit<, append_assoc}
 use Rattle.std.proofs.lemmas.List.{append-nil, length-map}
 use Rattle.std.proofs.lemmas.Bool.Decides.{nat_tests}
 use Rattle.std.specs.List.{range_with_len}
@@ -24,19 +24,19 @@ use Rattle.vsm_core.specs.declared.request.PartCall.{PartCall}
 use Rattle.vsm_core.specs.declared.request.PartCall.TheVariants.{ReadStatus, ReadConfig, WriteConfig}
 use Rattle.vsm_core.specs.declared.request.Reply.{Reply}
 use Rattle.vsm_core.specs.declared.request.Request.{Request}
-use Rattle.vsm_core.specs.Attempt.{admitted, attempt, behind_output, behind_page_mask, by_input, by_memory, by_refusal, by_registers, gets_by, gets_or_asks, hypercall_tree, interrupts, interrupts_by, left_for, left_with, looked_by, puts_out, reads_input, reads_slice, refused, requests, served, sets_by, sets_or_asks}
+use Rattle.vsm_core.specs.Attempt.{admitted, attempt, behind_output, behind_page_mask, by_input, by_memory, by_refusal, by_registers, gets_by, gets_or_asks, interrupts, interrupts_by, left_for, left_with, looked_by, puts_out, reads_input, reads_slice, refused, requests, served, sets_by, sets_or_asks}
 use Rattle.vsm_core.specs.Blocks.{ask, clear, round}
-use Rattle.vsm_core.specs.Calls.{Check, Row, rows, row_of, code_in, count_in, done_in, start_in, status_in, is_fast, first_failed, result_value}
+use Rattle.vsm_core.specs.Calls.{Check, Row, row_of, code_in, done_in, status_in, is_fast, first_failed, result_value}
 use Rattle.vsm_core.specs.Controllers.{writes}
 use Rattle.vsm_core.specs.Fills.{Cached}
 use Rattle.vsm_core.specs.Hypercalls.{input_value, input_address, output_address, has_output, fast_words, input_refusal, asked_of, refused_call, replied, request_of, result_outcome}
 use Rattle.vsm_core.specs.Interrupts.{vector_in, processors_in, interrupted_level, interrupt_checks, those_in, interrupt_steps}
 use Rattle.vsm_core.specs.Keeps.{EndsIn, KeepsTheRest, RefusesAll, RefusesRest, asks_of}
-use Rattle.vsm_core.specs.Outcomes.{Origin, Outcome, Refusal, faulted, held_outcome, denied_outcome}
+use Rattle.vsm_core.specs.Outcomes.{Origin, Outcome, Refusal, faulted}
 use Rattle.vsm_core.specs.Protection.{config_checks}
 use Rattle.vsm_core.specs.RegisterCalls.{Setting, all_emptied, all_set, count_of, get_refusal, get_refusals, got_slice, got_words, header_refusal, look_in, name_checks, numbers, past_of, read_call, register_checks, register_of, set_refusal, set_refusals, set_slice, setting_checks, settings, slice_end, slice_numbers, slice_outcome, slice_output, start_of, unless_refused, value_words, write_call, write_in}
-use Rattle.vsm_core.specs.Reps.{RepEnd, Refused, GoesOn, Complete, acting, first_word, refusing, rep_end, replied_end, slice_past, unrefused_end, words_between}
-use Rattle.vsm_core.specs.Served.{Service, answer, block, judged, serve, write_config}
+use Rattle.vsm_core.specs.Reps.{RepEnd, Refused, GoesOn, Complete, acting, first_word, refusing, rep_end, replied_end, slice_past, words_between}
+use Rattle.vsm_core.specs.Served.{Service, answer, block, judged, write_config}
 use Rattle.vsm_core.specs.State.{State, privilege_of}
 use Rattle.vsm_core.specs.Status.{protects}
 use Rattle.vsm_core.specs.Targets.{target_level}
@@ -46,10 +46,10 @@ use Rattle.vsm_core.proofs.KeptLevels.{EndsIn-asks_all, EndsIn-cond}
 use Rattle.vsm_core.proofs.KeptRefusals.{refused-so, refusal-keeps, result-keeps}
 use Rattle.vsm_laws.specs.Changes.{level_named}
 use Rattle.vsm_laws.specs.ReadWords.{with_read}
-use Rattle.vsm_laws.specs.Refusals.{EndsChanging, LeavesTheDone, LeavesTheDoneIfRefused, change_by, done_here, outputs, outputs_of, sets, with_change}
+use Rattle.vsm_laws.specs.Refusals.{AllRefused, Asked, EndsChanging, IsRefused, LeavesTheDone, LeavesTheDoneIfRefused, change_by, done_here, outputs, put_out, sets, with_change}
 use Rattle.vsm_laws.proofs.Away.{two-words}
-use Rattle.vsm_laws.proofs.Reading.{refused-ends}
-use Rattle.vsm_laws.proofs.SetCalls.{row-code}
+use Rattle.vsm_laws.proofs.Reading.{found-suc, refused-ends}
+use Rattle.vsm_laws.proofs.SetCalls.{get-row, row-code, set-row}
 
 -- a result that doesn't refuse, or none
 abbrev IsFine : Outcome → Type 0
@@ -111,17 +111,20 @@ start-few from = omega arith
 count-few : (from : Origin) → count_of from < 4096
 count-few from = omega arith
 
--- an end that doesn't refuse
-fine-so : (from : Origin) (read : List ℕ) (made : List WordStep) (o : Outcome) → IsFine o → LeavesTheDoneIfRefused from read made o
-fine-so from read made o fine = λ value is other. absurd (other (fine value is))
+abbrev Leaves : Origin → List ℕ → List WordStep → Tree Outcome → Type 0
+Leaves from read made t = EndsChanging (LeavesTheDoneIfRefused from) read made [] t
 
-changing-fine : (from : Origin) (read : List ℕ) (made : List WordStep) (t : Tree Outcome) → EndsIn IsFine t → EndsChanging (LeavesTheDoneIfRefused from) read made t
-changing-fine from read made (Ends o) h = fine-so from read made o h
-changing-fine from read made (Asks s k) h = λ x. changing-fine from (with_read read s x) (with_change made s) (k x) (h x)
-changing-fine from read made (Wants q k) h = λ s. changing-fine from read (made ++ flat_map change_by (block s q)) (k (answer s q)) (h (answer s q))
+-- an end that doesn't refuse
+fine-so : (from : Origin) (read : List ℕ) (made : List WordStep) (asked : Asked) (o : Outcome) → IsFine o → LeavesTheDoneIfRefused from read made asked o
+fine-so from read made asked o fine = λ value is other. absurd (other (fine value is))
+
+changing-fine : (from : Origin) (read : List ℕ) (made : List WordStep) (asked : Asked) (t : Tree Outcome) → EndsIn IsFine t → EndsChanging (LeavesTheDoneIfRefused from) read made asked t
+changing-fine from read made asked (Ends o) h = fine-so from read made asked o h
+changing-fine from read made asked (Asks s k) h = λ x. changing-fine from (with_read read s x) (with_change made s) asked (k x) (h x)
+changing-fine from read made asked (Wants q k) h = λ s. changing-fine from read (made ++ flat_map change_by (block s q)) ((s, q) ∷ asked) (k (answer s q)) (h (answer s q))
 
 changing-if : (from : Origin) (read : List ℕ) (made : List WordStep) (b : Bool) (t u : Tree Outcome)
-    → (b ≡ true → EndsChanging (LeavesTheDoneIfRefused from) read made t) → (b ≡ false → EndsChanging (LeavesTheDoneIfRefused from) read made u) → EndsChanging (LeavesTheDoneIfRefused from) read made (cond b t u)
+    → (b ≡ true → Leaves from read made t) → (b ≡ false → Leaves from read made u) → Leaves from read made (cond b t u)
 changing-if from read made true t u h g = h refl
 changing-if from read made false t u h g = g refl
 
@@ -176,25 +179,33 @@ none-changed s r other = none-changed-by s r (refused-so s r other)
 abbrev IsPlain : Origin → List ℕ → ℕ → Type 0
 IsPlain from read value = (outputs from read value ≡ []) × (sets from read value ≡ [])
 
-leaves-put : (from : Origin) (read : List ℕ) (made : List WordStep) (value : ℕ) (o : Outcome) → made ≡ outputs from read value → sets from read value ≡ [] → KeepsTheRest from o → o.does ≡ [] → LeavesTheDone from read made value o
-leaves-put from read made value o put unset keeps does = record {
+leaves-put : (from : Origin) (read : List ℕ) (made : List WordStep) (asked : Asked) (value : ℕ) (o : Outcome) → made ≡ outputs from read value → sets from read value ≡ [] → KeepsTheRest from o → o.does ≡ [] → AllRefused asked
+    → LeavesTheDone from read made asked value o
+leaves-put from read made asked value o put unset keeps does refused = record {
   changes = put;
   keeps = subst (λ done. KeepsTheRest (record from { state = all_set (level_named from read) from.state done }) o) (sym unset) keeps;
   empties = subst (λ done. o.does ≡ all_emptied (level_named from read) done) (sym unset) does;
+  requests = refused;
 }
 
-leaves-none : (from : Origin) (read : List ℕ) (value : ℕ) (o : Outcome) → IsPlain from read value → KeepsTheRest from o → o.does ≡ [] → LeavesTheDone from read [] value o
-leaves-none from read value o plain keeps does = leaves-put from read [] value o (sym plain.0) plain.1 keeps does
+leaves-none : (from : Origin) (read : List ℕ) (asked : Asked) (value : ℕ) (o : Outcome) → IsPlain from read value → KeepsTheRest from o → o.does ≡ [] → AllRefused asked → LeavesTheDone from read [] asked value o
+leaves-none from read asked value o plain keeps does refused = leaves-put from read [] asked value o (sym plain.0) plain.1 keeps does refused
 
 none-either : {A : Type 0} (b : Bool) (xs : List A) → xs ≡ [] → cond b xs [] ≡ []
 none-either true xs e = e
 none-either false xs e = refl
 
 -- as none of the elements was done
+abbrev put_at : Origin → List ℕ → List WordStep
+put_at from words = writes (output_address from.state / 4096) (output_address from.state % 4096 / 8 + 2 * start_of from) words
+
+abbrev values_of : Origin → List ℕ → ℕ → List ℕ
+values_of from read done = got_words from.state (level_named from read) (take done (slice_numbers from (drop 2 read)))
+
 none-done : (from : Origin) (read : List ℕ) (value : ℕ) → done_here from value ≡ 0 → IsPlain from read value
 none-done from read value none =
     let code = code_in (input_value from.state) in (
-      none-either (code == 0x0050) (outputs_of from read (done_here from value)) (ap (outputs_of from read) none),
+      ap (put_at from) (none-either (code == 0x0050) (values_of from read (done_here from value)) (ap (values_of from read) none)),
       none-either (code == 0x0051) (take (done_here from value) (settings (drop 2 read))) (ap (λ n. take n (settings (drop 2 read))) none),
     )
 
@@ -220,15 +231,13 @@ unset-none : (n : ℕ) → take {A = Setting} n [] ≡ []
 unset-none zero = refl
 unset-none (suc n) = refl
 
-unput-none : (from : Origin) (n : ℕ) → outputs_of from [] n ≡ []
-unput-none from n =
-    let put : List ℕ → List WordStep = λ ns. writes (output_address from.state / 4096) (output_address from.state % 4096 / 8 + 2 * start_of from) (got_words from.state (level_named from []) ns) in
-    ap (λ ns. put (take n ns)) (numbers-none from) ∙ ap put (take-none n)
+unput-none : (from : Origin) (n : ℕ) → values_of from [] n ≡ []
+unput-none from n = ap (λ ns. got_words from.state (level_named from []) (take n ns)) (numbers-none from) ∙ ap (got_words from.state (level_named from [])) (take-none n)
 
 unread-plain : (from : Origin) (value : ℕ) → IsPlain from [] value
 unread-plain from value =
     let code = code_in (input_value from.state) in (
-      none-either (code == 0x0050) (outputs_of from [] (done_here from value)) (unput-none from (done_here from value)),
+      ap (put_at from) (none-either (code == 0x0050) (values_of from [] (done_here from value)) (unput-none from (done_here from value))),
       none-either (code == 0x0051) (take (done_here from value) []) (unset-none (done_here from value)),
     )
 
@@ -271,7 +280,7 @@ take-few (suc n) (x ∷ xs) = omega (arith, take-few n xs)
 -- an element of a get that is refused
 get-slice-so : (from : Origin) (header elements : List ℕ) → code_in (input_value from.state) ≡ 0x0050 → length header ≡ 2
     → let target = target_level from.state.active header in let ns = slice_numbers from elements in
-    LeavesTheDoneIfRefused from (header ++ elements) (writes (output_address from.state / 4096) (output_address from.state % 4096 / 8 + 2 * start_of from) (slice_output from target ns)) (got_slice from target ns)
+    LeavesTheDoneIfRefused from (header ++ elements) (put_at from (slice_output from target ns)) [] (got_slice from target ns)
 get-slice-so from header elements code long value is other =
     let target = target_level from.state.active header in
     let ns = slice_numbers from elements in
@@ -283,12 +292,12 @@ get-slice-so from header elements code long value is other =
     let few = few-so from acted (length ns) among (take-few (past_of from - start_of from) _) in
     let done : done_here from value ≡ acted = subst (λ v. done_here from v ≡ acted) (sym ended.2) (slice-done from ended.0 acted small few) in
     let two = two-words header elements long in
-    let put : outputs from (header ++ elements) value ≡ writes (output_address from.state / 4096) (output_address from.state % 4096 / 8 + 2 * start_of from) (slice_output from target ns) = rw (code, done, two.0, two.1) refl in
-    leaves-put from (header ++ elements) _ value (got_slice from target ns) (sym put) (rw code refl) (get-element-keeps from target ns (λ e. cc)) (slice-does from from.state [] (slice_end from refusals))
+    let put : outputs from (header ++ elements) value ≡ put_at from (slice_output from target ns) = rw (code, done, two.0, two.1) refl in
+    leaves-put from (header ++ elements) (put_at from (slice_output from target ns)) [] value (got_slice from target ns) (sym put) (rw code refl) (get-element-keeps from target ns (λ e. cc)) (slice-does from from.state [] (slice_end from refusals)) tt
 
 -- an element of a set
 set-slice-so : (from : Origin) (header elements : List ℕ) → code_in (input_value from.state) ≡ 0x0051 → length header ≡ 2 → length elements ≡ words_between 32 (start_of from) (past_of from)
-    → let target = target_level from.state.active header in LeavesTheDoneIfRefused from (header ++ elements) [] (set_slice from target (settings elements))
+    → let target = target_level from.state.active header in LeavesTheDoneIfRefused from (header ++ elements) [] [] (set_slice from target (settings elements))
 set-slice-so from header elements code long whole value is other =
     let target = target_level from.state.active header in
     let refusal = set_refusal from.state.active target (count_of from) in
@@ -309,14 +318,15 @@ set-slice-so from header elements code long whole value is other =
       changes = rw code refl;
       keeps = subst (λ state. KeepsTheRest (record from { state = state }) (set_slice from target (settings elements))) (sym after) (set-element-keeps from target (settings elements) (λ e. cc));
       empties = slice-does from (all_set target from.state named) (all_emptied target named) (slice_end from refusals) ∙ sym emptied;
+      requests = tt;
     }
 
 -- a header that is refused
-header-so : (from : Origin) (read : List ℕ) (status : HvStatus) → status.0 < 65536 → LeavesTheDoneIfRefused from read [] (result_outcome from from.state status (start_of from))
+header-so : (from : Origin) (read : List ℕ) (status : HvStatus) → status.0 < 65536 → LeavesTheDoneIfRefused from read [] [] (result_outcome from from.state status (start_of from))
 header-so from read status small value is other =
     let same : value ≡ result_value status (start_of from) = cc in
     let done : done_here from value ≡ 0 = subst (λ v. done_here from v ≡ 0) (sym same) (start-done from status small) in
-    leaves-none from read value (result_outcome from from.state status (start_of from)) (none-done from read value done) (result-keeps from from.state [] status (start_of from)) refl
+    leaves-none from read [] value (result_outcome from from.state status (start_of from)) (none-done from read value done) (result-keeps from from.state [] status (start_of from)) refl tt
 
 -- the registers of the partition are read always
 look-call : (refusal : Option HvStatus) (register : Option CallRegister) (call : PartCall) → unless_refused refusal (read_call register) ≡ Some call → (call ≡ ReadStatus) ⊎ (call ≡ ReadConfig)
@@ -363,73 +373,86 @@ written-by false x y h g = g
 written : (s : PartitionState) (by : VpIndex) (value : ℕ) → (write_config s by value).reply.status ≡ statuses.SUCCESS
 written s by value = written-by (not (protects s.config) && protects value) _ _ refl refl
 
-config-so : (from : Origin) (read : List ℕ) (s : PartitionState) (by : VpIndex) (value : ℕ) (refusal : Option HvStatus) → first_failed (config_checks s.config value) ≡ refusal
-    → let service : Service = judged s by 0 refusal (write_config s by value) in LeavesTheDoneIfRefused from read (flat_map change_by service.block) (replied from service.reply)
-config-so from read s by value None e = fine-so from read _ _ (served-fine-by false from (write_config s by value).reply (written s by value))
-config-so from read s by value (Some status) e = λ result is other.
+config-so : (from : Origin) (read : List ℕ) (s : PartitionState) (value : ℕ) (refusal : Option HvStatus) → first_failed (config_checks s.config value) ≡ refusal
+    → let q : Request = asked_of from (WriteConfig value) in let service : Service = judged s q.by 0 refusal (write_config s q.by value) in
+    ((service.reply.status ≢ statuses.SUCCESS) → IsRefused s q) → LeavesTheDoneIfRefused from read (flat_map change_by service.block) ((s, q) ∷ []) (replied from service.reply)
+config-so from read s value None e refuses = fine-so from read _ _ _ (served-fine-by false from (write_config s (asked_of from (WriteConfig value)).by value).reply (written s (asked_of from (WriteConfig value)).by value))
+config-so from read s value (Some status) e refuses = λ result is other.
     let same : result ≡ result_value status 0 = cc in
     let done : done_here from result ≡ 0 = subst (λ v. done_here from v ≡ 0) (sym same) (first-done from status (config-small s.config value status e)) in
-    leaves-none from read result (result_outcome from from.state status 0) (none-done from read result done) (result-keeps from from.state [] status 0) refl
-
--- that of a get has a header of two words, and that of a set besides has elements of four
-get-row : (code : ℕ) (row : Row) → row_of code ≡ Some row → code ≡ 0x0050 → row.header / 8 ≡ 2
-unfolding row_of rows
-get-row code row e is =
-    let found : row_of 0x0050 ≡ Some row = subst (λ c. row_of c ≡ Some row) is e in
-    let get : Row = record { code = 0x0050; is_rep = true; may_be_fast = false; header = 16; element = 4; read = 4; output = 16 } in
-    let same : get ≡ row = cc in
-    ap (λ (r : Row). r.header / 8) (sym same)
-
-set-row : (code : ℕ) (row : Row) → row_of code ≡ Some row → code ≡ 0x0051 → (row.header / 8 ≡ 2) × (row.read ≡ 32)
-unfolding row_of rows
-set-row code row e is =
-    let found : row_of 0x0051 ≡ Some row = subst (λ c. row_of c ≡ Some row) is e in
-    let set : Row = record { code = 0x0051; is_rep = true; may_be_fast = false; header = 16; element = 32; read = 32; output = 0 } in
-    let same : set ≡ row = cc in
-    (ap (λ (r : Row). r.header / 8) (sym same), ap (λ (r : Row). r.read) (sym same))
+    let bad : status ≢ statuses.SUCCESS = λ good. other (result-fine from status 0 good result is) in
+    leaves-none from read ((s, asked_of from (WriteConfig value)) ∷ []) result (result_outcome from from.state status 0) (none-done from read result done) (result-keeps from from.state [] status 0) refl (refuses bad, tt)
 
 -- words that are read one after the other change nothing
-found-suc : (found : List ℕ) (x count : ℕ) (words : List ℕ) → length words ≡ length (found ++ x ∷ []) + count → length words ≡ length found + suc count
-found-suc found x count words long = omega (arith, long, length-append found (x ∷ []))
-
 read-whole : (size start past : ℕ) (words : List ℕ) → length words ≡ 0 + words_between size start past → size ≡ 32 → length words ≡ words_between 32 start past
 read-whole size start past words long is = let whole : length words ≡ 0 + words_between 32 start past = subst (λ n. length words ≡ 0 + words_between n start past) is long in omega (arith, whole)
 
 changing-reads : (from : Origin) (page index count : ℕ) (before found : List ℕ) (rest : List ℕ → Tree Outcome)
-    → ((words : List ℕ) → length words ≡ length found + count → EndsChanging (LeavesTheDoneIfRefused from) (before ++ words) [] (rest words)) → EndsChanging (LeavesTheDoneIfRefused from) (before ++ found) [] (reads page index count found rest)
+    → ((words : List ℕ) → length words ≡ length found + count → Leaves from (before ++ words) [] (rest words)) → Leaves from (before ++ found) [] (reads page index count found rest)
 changing-reads from page index zero before found rest h = h found (omega arith)
 changing-reads from page index (suc count) before found rest h = λ x.
-    subst (λ words. EndsChanging (LeavesTheDoneIfRefused from) words [] (reads page (suc index) count (found ++ x ∷ []) rest)) (sym (append_assoc before found (x ∷ [])))
+    subst (λ words. Leaves from words [] (reads page (suc index) count (found ++ x ∷ []) rest)) (sym (append_assoc before found (x ∷ [])))
     (changing-reads from page (suc index) count before (found ++ x ∷ []) rest (λ words long. h words (found-suc found x count words long)))
 
 -- words that are written are the changes
 changing-writes : (from : Origin) (read : List ℕ) (page index : ℕ) (made : List WordStep) (words : List ℕ) (rest : Tree Outcome)
-    → EndsChanging (LeavesTheDoneIfRefused from) read (made ++ writes page index words) rest → EndsChanging (LeavesTheDoneIfRefused from) read made (asks_all (writes page index words) rest)
-changing-writes from read page index made [] rest h = subst (λ all. EndsChanging (LeavesTheDoneIfRefused from) read all rest) (append-nil made) h
+    → Leaves from read (made ++ writes page index words) rest → Leaves from read made (asks_all (writes page index words) rest)
+changing-writes from read page index made [] rest h = subst (λ all. Leaves from read all rest) (append-nil made) h
 changing-writes from read page index made (word ∷ words) rest h = λ x.
     changing-writes from read page (suc index) (made ++ Writing page index word ∷ []) words rest
-    (subst (λ all. EndsChanging (LeavesTheDoneIfRefused from) read all rest) (sym (append_assoc made (Writing page index word ∷ []) (writes page (suc index) words))) h)
+    (subst (λ all. Leaves from read all rest) (sym (append_assoc made (Writing page index word ∷ []) (writes page (suc index) words))) h)
+
+-- and what they have changed is known at the end
+written-changes : (from : Origin) (read : List ℕ) (page index : ℕ) (made : List WordStep) (words : List ℕ) (o : Outcome)
+    → Leaves from read made (asks_all (writes page index words) (left_with o)) → LeavesTheDoneIfRefused from read (made ++ writes page index words) [] o
+written-changes from read page index made [] o h = subst (λ all. LeavesTheDoneIfRefused from read all [] o) (sym (append-nil made)) (h 0)
+written-changes from read page index made (word ∷ words) o h =
+    subst (λ all. LeavesTheDoneIfRefused from read all [] o) (append_assoc made (Writing page index word ∷ []) (writes page (suc index) words))
+    (written-changes from read page (suc index) (made ++ Writing page index word ∷ []) words o (h 0))
+
+status-stays : (status : HvStatus) (done : ℕ) → 0 < status.0 → status.0 < 65536 → status_in (result_value status done) ≢ 0
+status-stays status done some small = λ e. omega (arith, some, small, e)
+
+same-words : (page index : ℕ) (words others : List ℕ) → writes page index words ≡ writes page index others → words ≡ others
+same-words page index [] [] e = refl
+same-words page index [] (other ∷ others) e = cc
+same-words page index (word ∷ words) [] e = cc
+same-words page index (word ∷ words) (other ∷ others) e =
+    let rest = same-words page (suc index) words others cc in
+    let first : word ≡ other = cc in
+    cc
+
+-- so a get that is refused puts out no other words
+pub puts-out-no-other : (from : Origin) (read words : List ℕ) (status : HvStatus) (done : ℕ) → 0 < status.0 → status.0 < 2 ^ 16 → words ≢ put_out from read (result_value status done)
+    → ¬ EndsChanging (LeavesTheDoneIfRefused from) read [] [] (puts_out from words (result_outcome from from.state status done))
+puts-out-no-other from read words status done some small apart h =
+    let page = output_address from.state / 4096 in
+    let index = output_address from.state % 4096 / 8 + 2 * start_of from in
+    let o = result_outcome from from.state status done in
+    let value = result_value status done in
+    let leaves = written-changes from read page index [] words o h value refl (status-stays status done some small) in
+    apart (same-words page index words (put_out from read value) leaves.changes)
 
 module _ (from : Origin) where
-  page-so : (read : List ℕ) (level : Vtl) (kind : Access) (address generation : ℕ) (rest : Tree Outcome) → EndsChanging (LeavesTheDoneIfRefused from) read [] rest
-      → EndsChanging (LeavesTheDoneIfRefused from) read [] (behind_page_mask level from kind address generation rest)
+  page-so : (read : List ℕ) (level : Vtl) (kind : Access) (address generation : ℕ) (rest : Tree Outcome) → Leaves from read [] rest
+      → Leaves from read [] (behind_page_mask level from kind address generation rest)
   page-so read Zero kind address generation rest h = λ mask.
       let r : Refusal = record { page = address / 4096; mask = mask; generation = generation; access = kind; gpa = address } in
-      changing-if from read [] (allows mask kind) rest (refused from None r []) (λ e. h) (λ e. changing-fine from read [] (refused from None r []) (denied-fine from r))
+      changing-if from read [] (allows mask kind) rest (refused from None r []) (λ e. h) (λ e. changing-fine from read [] [] (refused from None r []) (denied-fine from r))
   page-so read One kind address generation rest h = h
 
   -- what the partition serves
-  requests-so : (read : List ℕ) (code : ℕ) (header elements : List ℕ) → ((value : ℕ) → IsPlain from read value) → EndsChanging (LeavesTheDoneIfRefused from) read [] (requests from code header elements)
+  requests-so : (read : List ℕ) (code : ℕ) (header elements : List ℕ) → ((value : ℕ) → IsPlain from read value) → Leaves from read [] (requests from code header elements)
   requests-so read code header elements plain = λ s value is other.
       let q : Request = request_of from code header elements in
       let bad : (answer s q).status ≢ statuses.SUCCESS = λ e. other (served-fine from code (answer s q) e value is) in
-      subst (λ made. LeavesTheDone from read made value (served from code (answer s q))) (sym (none-changed s q bad))
-      (leaves-none from read value (served from code (answer s q)) (plain value) (refusal-keeps from s q code bad) (served-does from (code == 0x000C) (answer s q)))
+      subst (λ made. LeavesTheDone from read made ((s, q) ∷ []) value (served from code (answer s q))) (sym (none-changed s q bad))
+      (leaves-none from read ((s, q) ∷ []) value (served from code (answer s q)) (plain value) (refusal-keeps from s q code bad) (served-does from (code == 0x000C) (answer s q)) (refused-so s q bad, tt))
 
   -- calls that get registers
   gets_or_asks-so : (header elements : List ℕ) (call : Option PartCall) → code_in (input_value from.state) ≡ 0x0050 → length header ≡ 2
       → let target = target_level from.state.active header in look_in from.state.active target (count_of from) (slice_numbers from elements) ≡ call
-      → EndsChanging (LeavesTheDoneIfRefused from) (header ++ elements) [] (gets_or_asks from target (slice_numbers from elements) call)
+      → Leaves from (header ++ elements) [] (gets_or_asks from target (slice_numbers from elements) call)
   gets_or_asks-so header elements None code long e =
       let target = target_level from.state.active header in
       let ns = slice_numbers from elements in
@@ -437,11 +460,11 @@ module _ (from : Origin) where
       (λ x. get-slice-so from header elements code long)
   gets_or_asks-so header elements (Some call) code long e = λ x s.
       let target = target_level from.state.active header in
-      changing-fine from (header ++ elements) _ (looked_by from (answer s (asked_of from call)))
+      changing-fine from (header ++ elements) _ _ (looked_by from (answer s (asked_of from call)))
       (looked-fine from (answer s (asked_of from call)) (look-good from s call (slice-call from target (slice_numbers from elements) call e)))
 
   gets_by-so : (header elements : List ℕ) (refusal : Option HvStatus) → code_in (input_value from.state) ≡ 0x0050 → length header ≡ 2 → header_refusal from header ≡ refusal
-      → EndsChanging (LeavesTheDoneIfRefused from) (header ++ elements) [] (gets_by from header elements refusal)
+      → Leaves from (header ++ elements) [] (gets_by from header elements refusal)
   gets_by-so header elements None code long e =
       let target = target_level from.state.active header in
       gets_or_asks-so header elements (look_in from.state.active target (count_of from) (slice_numbers from elements)) code long refl
@@ -450,40 +473,39 @@ module _ (from : Origin) where
   -- calls that set registers
   sets_or_asks-so : (header elements : List ℕ) (call : Option PartCall) → code_in (input_value from.state) ≡ 0x0051 → length header ≡ 2 → length elements ≡ words_between 32 (start_of from) (past_of from)
       → let target = target_level from.state.active header in write_in from.state.active target (count_of from) (settings elements) ≡ call
-      → EndsChanging (LeavesTheDoneIfRefused from) (header ++ elements) [] (sets_or_asks from target (settings elements) call)
+      → Leaves from (header ++ elements) [] (sets_or_asks from target (settings elements) call)
   sets_or_asks-so header elements None code long whole e = λ x. set-slice-so from header elements code long whole
   sets_or_asks-so header elements (Some call) code long whole e = λ x s.
       let target = target_level from.state.active header in
       let written = setting-call from target (settings elements) call e in
-      let by : VpIndex = record { 0 = from.number } in
-      subst (λ c. LeavesTheDoneIfRefused from (header ++ elements) (flat_map change_by (block s (asked_of from c))) (replied from (answer s (asked_of from c)))) (sym written.1)
-      (config-so from (header ++ elements) s by written.0 (first_failed (config_checks s.config written.0)) refl)
+      subst (λ c. LeavesTheDoneIfRefused from (header ++ elements) (flat_map change_by (block s (asked_of from c))) ((s, asked_of from c) ∷ []) (replied from (answer s (asked_of from c)))) (sym written.1)
+      (config-so from (header ++ elements) s written.0 (first_failed (config_checks s.config written.0)) refl (refused-so s (asked_of from (WriteConfig written.0))))
 
   sets_by-so : (header elements : List ℕ) (refusal : Option HvStatus) → code_in (input_value from.state) ≡ 0x0051 → length header ≡ 2 → length elements ≡ words_between 32 (start_of from) (past_of from) → header_refusal from header ≡ refusal
-      → EndsChanging (LeavesTheDoneIfRefused from) (header ++ elements) [] (sets_by from header elements refusal)
+      → Leaves from (header ++ elements) [] (sets_by from header elements refusal)
   sets_by-so header elements None code long whole e =
       let target = target_level from.state.active header in
       sets_or_asks-so header elements (write_in from.state.active target (count_of from) (settings elements)) code long whole refl
   sets_by-so header elements (Some status) code long whole e = λ x. header-so from (header ++ elements) status (header-small from header status e)
 
   -- calls that interrupt
-  refused-call-so : (read : List ℕ) (status : HvStatus) → ((value : ℕ) → IsPlain from read value) → LeavesTheDoneIfRefused from read [] (refused_call from status)
-  refused-call-so read status plain value is other = leaves-none from read value (refused_call from status) (plain value) (result-keeps from from.state [] status 0) refl
+  refused-call-so : (read : List ℕ) (status : HvStatus) → ((value : ℕ) → IsPlain from read value) → LeavesTheDoneIfRefused from read [] [] (refused_call from status)
+  refused-call-so read status plain value is other = leaves-none from read [] value (refused_call from status) (plain value) (result-keeps from from.state [] status 0) refl tt
 
-  interrupts_by-so : (read : List ℕ) (header : List ℕ) (refusal : Option HvStatus) → ((value : ℕ) → IsPlain from read value) → EndsChanging (LeavesTheDoneIfRefused from) read [] (interrupts_by from header refusal)
+  interrupts_by-so : (read : List ℕ) (header : List ℕ) (refusal : Option HvStatus) → ((value : ℕ) → IsPlain from read value) → Leaves from read [] (interrupts_by from header refusal)
   interrupts_by-so read header (Some status) plain = refused-call-so read status plain
   interrupts_by-so read header None plain =
       let steps = interrupt_steps (interrupted_level from.state.active header) (vector_in header) (those_in (processors_in header) 0 from.vps) in
-      changing-fine from read [] (asks_all steps (Ends (result_outcome from from.state statuses.SUCCESS 0)))
+      changing-fine from read [] [] (asks_all steps (Ends (result_outcome from from.state statuses.SUCCESS 0)))
       (EndsIn-asks_all IsFine steps (Ends (result_outcome from from.state statuses.SUCCESS 0)) (result-fine from statuses.SUCCESS 0 refl))
 
-  interrupts-so : (read : List ℕ) (header : List ℕ) → ((value : ℕ) → IsPlain from read value) → EndsChanging (LeavesTheDoneIfRefused from) read [] (interrupts from header)
+  interrupts-so : (read : List ℕ) (header : List ℕ) → ((value : ℕ) → IsPlain from read value) → Leaves from read [] (interrupts from header)
   interrupts-so read header plain = interrupts_by-so read header (first_failed (interrupt_checks from.vps from.state.active header)) plain
 
   -- by its code and its input
   input-so : (code : ℕ) (header elements : List ℕ) → code ≡ code_in (input_value from.state) → (code ≡ 0x0050 → length header ≡ 2)
       → (code ≡ 0x0051 → (length header ≡ 2) × (length elements ≡ words_between 32 (start_of from) (past_of from)))
-      → EndsChanging (LeavesTheDoneIfRefused from) (header ++ elements) [] (by_input from code header elements)
+      → Leaves from (header ++ elements) [] (by_input from code header elements)
   input-so code header elements own get set =
       let read = header ++ elements in
       let sets : Tree Outcome = sets_by from header elements (header_refusal from header) in
@@ -498,25 +520,25 @@ module _ (from : Origin) where
       changing-if from read [] (code == 0x000B) posts asked (λ is. λ x. interrupts-so read header plain) (λ is. λ x. requests-so read code header elements plain)))
 
   reads_slice-so : (row : Row) (address : ℕ) (header : List ℕ) → row.code ≡ code_in (input_value from.state) → (row.code ≡ 0x0050 → length header ≡ 2) → (row.code ≡ 0x0051 → (length header ≡ 2) × (row.read ≡ 32))
-      → EndsChanging (LeavesTheDoneIfRefused from) header [] (reads_slice from row address header)
+      → Leaves from header [] (reads_slice from row address header)
   reads_slice-so row address header own get set =
-      subst (λ read. EndsChanging (LeavesTheDoneIfRefused from) read [] (reads_slice from row address header)) (append-nil header)
+      subst (λ read. Leaves from read [] (reads_slice from row address header)) (append-nil header)
       (changing-reads from (address / 4096) (address % 4096 / 8 + row.header / 8 + first_word row.read (start_of from)) (words_between row.read (start_of from) (past_of from)) header [] (by_input from row.code header)
       (λ words long. input-so row.code header words own get (λ is. ((set is).0, read-whole row.read (start_of from) (past_of from) words long (set is).1))))
 
   reads_input-so : (row : Row) (address : ℕ) → row.code ≡ code_in (input_value from.state) → (row.code ≡ 0x0050 → row.header / 8 ≡ 2) → (row.code ≡ 0x0051 → (row.header / 8 ≡ 2) × (row.read ≡ 32))
-      → EndsChanging (LeavesTheDoneIfRefused from) [] [] (reads_input from row address)
+      → Leaves from [] [] (reads_input from row address)
   reads_input-so row address own get set =
       changing-reads from (address / 4096) (address % 4096 / 8) (row.header / 8) [] [] (reads_slice from row address)
       (λ header long. reads_slice-so row address header own (λ is. rw (long, get is) refl) (λ is. (rw (long, (set is).0) refl, (set is).1)))
 
-  output-so : (row : Row) (generation : ℕ) (rest : Tree Outcome) → EndsChanging (LeavesTheDoneIfRefused from) [] [] rest → EndsChanging (LeavesTheDoneIfRefused from) [] [] (behind_output from row generation rest)
+  output-so : (row : Row) (generation : ℕ) (rest : Tree Outcome) → Leaves from [] [] rest → Leaves from [] [] (behind_output from row generation rest)
   output-so row generation rest h =
       changing-if from [] [] (has_output row) (behind_page_mask from.state.active from Write (output_address from.state) generation rest) rest
       (λ e. page-so [] from.state.active Write (output_address from.state) generation rest h) (λ e. h)
 
   admitted-so : (row : Row) → row.code ≡ code_in (input_value from.state) → (row.code ≡ 0x0050 → row.header / 8 ≡ 2) → (row.code ≡ 0x0051 → (row.header / 8 ≡ 2) × (row.read ≡ 32))
-      → EndsChanging (LeavesTheDoneIfRefused from) [] [] (admitted from row)
+      → Leaves from [] [] (admitted from row)
   admitted-so row own get set =
       let address = input_address from.state in
       let header = fast_words from.state in
@@ -525,17 +547,17 @@ module _ (from : Origin) where
       (λ e. λ a generation. let input = reads_input from row address in
       page-so [] from.state.active Read address generation (behind_output from row generation input) (output-so row generation input (reads_input-so row address own get set)))
 
-  by_refusal-so : (row : Option Row) (refusal : Option HvStatus) → row_of (code_in (input_value from.state)) ≡ row → EndsChanging (LeavesTheDoneIfRefused from) [] [] (by_refusal from row refusal)
+  by_refusal-so : (row : Option Row) (refusal : Option HvStatus) → row_of (code_in (input_value from.state)) ≡ row → Leaves from [] [] (by_refusal from row refusal)
   by_refusal-so row (Some status) is = refused-call-so [] status (unread-plain from)
-  by_refusal-so None None is = fine-so from [] [] (faulted from Undefined) (λ value e. cc)
+  by_refusal-so None None is = fine-so from [] [] [] (faulted from Undefined) (λ value e. cc)
   by_refusal-so (Some row) None is =
       let code = code_in (input_value from.state) in
       let own = row-code code row is in
       admitted-so row own (λ get. get-row code row is (sym own ∙ get)) (λ set. set-row code row is (sym own ∙ set))
 
-  pub refused-leaves : EndsChanging (LeavesTheDoneIfRefused from) [] [] (attempt from Hypercall)
+  pub refused-leaves : EndsChanging (LeavesTheDoneIfRefused from) [] [] [] (attempt from Hypercall)
   refused-leaves =
       let value = input_value from.state in
       let row = row_of (code_in value) in
       let refusal = input_refusal from.pages row value (input_address from.state) (output_address from.state) in
-      changing-if from [] [] (privilege_of from.state == 0) (by_refusal from row refusal) (Ends (faulted from Undefined)) (λ e. by_refusal-so row refusal refl) (λ e. fine-so from [] [] (faulted from Undefined) (λ v is. cc))
+      changing-if from [] [] (privilege_of from.state == 0) (by_refusal from row refusal) (Ends (faulted from Undefined)) (λ e. by_refusal-so row refusal refl) (λ e. fine-so from [] [] [] (faulted from Undefined) (λ v is. cc))

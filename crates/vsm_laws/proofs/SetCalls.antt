@@ -39,14 +39,22 @@ pub row-code : (code : ℕ) (row : Row) → row_of code ≡ Some row → row.cod
 unfolding row_of
 row-code code row e = code-among rows code row e
 
--- that of the call that sets registers has a header of two words
-set-header : (code : ℕ) (row : Row) → row_of code ≡ Some row → code ≡ 0x0051 → row.header / 8 ≡ 2
+-- that of a get has a header of two words, and that of a set besides has elements of four
+pub get-row : (code : ℕ) (row : Row) → row_of code ≡ Some row → code ≡ 0x0050 → row.header / 8 ≡ 2
 unfolding row_of rows
-set-header code row e is =
+get-row code row e is =
+    let found : row_of 0x0050 ≡ Some row = subst (λ c. row_of c ≡ Some row) is e in
+    let get : Row = record { code = 0x0050; is_rep = true; may_be_fast = false; header = 16; element = 4; read = 4; output = 16 } in
+    let same : get ≡ row = cc in
+    ap (λ (r : Row). r.header / 8) (sym same)
+
+pub set-row : (code : ℕ) (row : Row) → row_of code ≡ Some row → code ≡ 0x0051 → (row.header / 8 ≡ 2) × (row.read ≡ 32)
+unfolding row_of rows
+set-row code row e is =
     let found : row_of 0x0051 ≡ Some row = subst (λ c. row_of c ≡ Some row) is e in
     let set : Row = record { code = 0x0051; is_rep = true; may_be_fast = false; header = 16; element = 32; read = 32; output = 0 } in
     let same : set ≡ row = cc in
-    ap (λ (r : Row). r.header / 8) (sym same)
+    (ap (λ (r : Row). r.header / 8) (sym same), ap (λ (r : Row). r.read) (sym same))
 
 module _ (from : Origin) (Q : List ℕ → Outcome → Type 0)
     (fault-so : (words : List ℕ) → Q words (faulted from Undefined))
@@ -161,7 +169,7 @@ module _ (from : Origin) (Q : List ℕ → Outcome → Type 0)
   by_refusal-so (Some row) None is =
       let code = code_in (input_value from.state) in
       let own = row-code code row is in
-      admitted-so row own (λ set. set-header code row is (sym own ∙ set))
+      admitted-so row own (λ set. (set-row code row is (sym own ∙ set)).0)
 
   pub hypercall-so : EndsReading Q [] (hypercall_tree from)
   hypercall-so =

@@ -1,5 +1,5 @@
 use Rattle.vsm_laws.proofs.RefusedAtOnce.{refused-at-once}
-use Rattle.vsm_laws.proofs.RefusedCalls.{refused-leaves}
+use Rattle.vsm_laws.proofs.RefusedCalls.{puts-out-no-other, refused-leaves}
 use Rattle.vsm_laws.proofs.hypercalls.refused_hypercalls_keep_the_rest.Goals as goal
 
 pub returns-clause-tree : goal.returns-clause-tree
@@ -7,3 +7,6 @@ returns-clause-tree c = refused-leaves
 
 pub returns-clause-at_once : goal.returns-clause-at_once
 returns-clause-at_once c = refused-at-once
+
+pub returns-clause-no_others : goal.returns-clause-no_others
+returns-clause-no_others c = puts-out-no-other
