@@ -22,7 +22,8 @@ use Rattle.vsm_core.specs.Reps.{acting, with_start}
 use Rattle.vsm_core.specs.State.{State, put as put_in, word_of}
 use Rattle.vsm_core.proofs.Checks.{none-fails}
 use Rattle.vsm_core.proofs.KeptLevels.{Q-cond}
-use Rattle.vsm_laws.specs.Changes.{is_common, is_level, is_same}
+use Rattle.vsm_core.specs.Targets.{is_level}
+use Rattle.vsm_laws.specs.Changes.{is_common, is_same}
 use Rattle.vsm_laws.proofs.Changing.{put-keeps}
 
 -- all registers have their places, and the program stands where it stood
