@@ -50,9 +50,9 @@ impl Cache {
         }
     }
 
-    /// What is kept of an address page at a level. `None` exactly where nothing was kept in its place since the level
-    /// was dropped, where what was kept there last is of another address page or of another generation than this, or
-    /// where the address page was dropped since.
+    /// What is kept of an address page at a level. `None` exactly where nothing was kept in its place yet, or since the
+    /// level was dropped, where what was kept there last is of another address page or of another generation than this,
+    /// or where the address page was dropped since.
     pub fn lookup(&self, level: Vtl, page: u64, generation: u64) -> Option<Cached>
         ensures { told_of result ≡ found_of (hit self.now level page generation) }
     {
