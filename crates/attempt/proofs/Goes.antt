@@ -35,7 +35,7 @@ module _ (from : Origin) (u : Under) where
   stage-goes Access is other = then-goes (path_rest u.path) _ (path-asks u.path)
   stage-goes (Enter inner) is other = tt
   stage-goes (Check inner) is other = tt
-  stage-goes (Mask gate) is other = tt
+  stage-goes (Mask gate generation) is other = tt
   stage-goes (Look page matter) is other = tt
   stage-goes (Rax page) is other = tt
   stage-goes (Rcx page rax) is other = tt
@@ -45,6 +45,6 @@ module _ (from : Origin) (u : Under) where
   stage-goes (Take count) is other = rw (next-taken count is) tt
   stage-goes (Depart asked) is other = tt
   stage-goes (Want asked) is other = tt
-  stage-goes (Quit sending) is other = tt
+  stage-goes (Quit sends) is other = tt
   stage-goes (Send sending) is other = tt
   stage-goes End is other = absurd (other refl)

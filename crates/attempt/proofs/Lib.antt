@@ -1,7 +1,6 @@
 pub mod Begins
 pub mod ContextGiven
 pub mod Goes
-pub mod Inputs
 pub mod Polls
 pub mod Puts
 pub mod Sendings

@@ -3,19 +3,19 @@ use Rattle.std.specs.Prelude.{◌≡◌, ℕ, ◌-◌, ◌/◌, ◌^◌, ◌<◌
 use Rattle.vsm_base.specs.declared.places.Access.{Access}
 use Rattle.vsm_base.specs.declared.places.Access.TheVariants.{Read, Write, Execute}
 use Rattle.vsm_core.specs.declared.mark.Grant.{Grant}
-use Rattle.vsm_core.specs.Access.{Goal, Decision, Grants, Denies, Faults, access, from_check, query_of, tables, by_table_mask, entry_step, by_mask, reaches}
+use Rattle.vsm_core.specs.Access.{Goal, Decision, Grants, Denies, Faults, access, from_check, query_of, tables, by_table_mask, entry_step, by_mask, behind_mask, reaches}
 use Rattle.vsm_core.specs.Fills.{Fill}
 use Rattle.vsm_core.specs.Tree.{Tree, Ends, Asks, Checking, Masking}
 use Rattle.page_walk.specs.Half.{Stands}
 use Rattle.page_walk.specs.Told.{translation_of}
-use Rattle.attempt.specs.declared.place.Aim.{Aim}
-use Rattle.attempt.specs.declared.place.Fill.{Fill as Kept}
-use Rattle.attempt.specs.declared.place.Path.{Path}
-use Rattle.attempt.specs.declared.place.Place.{Place}
-use Rattle.attempt.specs.declared.place.Place.TheVariants.{Start, Check, TableMask, TableRead, DataMask, Data}
-use Rattle.attempt.specs.declared.place.Reached.{Reached}
-use Rattle.attempt.specs.declared.place.Reached.TheVariants.{On, Granted, Denied, Fault}
-use Rattle.attempt.specs.declared.place.Walking.{Walking}
+use Rattle.attempt.specs.declared.path.Aim.{Aim}
+use Rattle.attempt.specs.declared.path.Fill.{Fill as Kept}
+use Rattle.attempt.specs.declared.path.Path.{Path}
+use Rattle.attempt.specs.declared.path.Place.{Place}
+use Rattle.attempt.specs.declared.path.Place.TheVariants.{Start, Check, TableMask, TableRead, DataMask, Data}
+use Rattle.attempt.specs.declared.path.Reached.{Reached}
+use Rattle.attempt.specs.declared.path.Reached.TheVariants.{On, Granted, Denied, Fault}
+use Rattle.attempt.specs.declared.path.Walking.{Walking}
 
 -- the access that an aim asks for
 abbrev pub goal_of : Aim → Goal
@@ -70,13 +70,19 @@ taken_of p w = take w.taken p.entries
 abbrev pub tables_of : Path → Walking → List ℕ → Tree Decision
 tables_of p w = tables (3 - w.taken) (goal_of p.aim) w.generation
 
+-- what is left where the walk has come to the table of its next entry
+abbrev pub table_rest : Path → Walking → Tree Decision
+table_rest p w = behind_mask p.aim.level w.page.0
+    (by_table_mask (tables_of p w) (taken_of p w) w.generation w.page.0 w.index)
+    (entry_step (tables_of p w) (taken_of p w) w.page.0 w.index)
+
 -- what is left of the access from this place on
 abbrev pub place_rest : Path → Place → Tree Decision
 place_rest p Start = access (goal_of p.aim)
 place_rest p Check = Asks Checking (from_check (goal_of p.aim))
-place_rest p (TableMask w page index) = Asks (Masking page.0)
-    (by_table_mask (tables_of p w) (taken_of p w) w.generation page.0 index)
-place_rest p (TableRead w page index) = entry_step (tables_of p w) (taken_of p w) page.0 index
+place_rest p (TableMask w) = Asks (Masking w.page.0)
+    (by_table_mask (tables_of p w) (taken_of p w) w.generation w.page.0 w.index)
+place_rest p (TableRead w) = entry_step (tables_of p w) (taken_of p w) w.page.0 w.index
 place_rest p DataMask = Asks (Masking p.fill.to.page)
     (by_mask (goal_of p.aim) (translation_of p.fill.to) p.fill.generation)
 place_rest p Data = reaches (goal_of p.aim) (translation_of p.fill.to) p.fill.generation p.fill.mask
@@ -105,8 +111,8 @@ pub record Leads (p : Path) : Type 0 where
 abbrev pub PlaceIs : Path → Place → Type 0
 PlaceIs p Start = Unit {0}
 PlaceIs p Check = Unit {0}
-PlaceIs p (TableMask w page index) = IsWalking p.aim w p.entries
-PlaceIs p (TableRead w page index) = IsWalking p.aim w p.entries
+PlaceIs p (TableMask w) = IsWalking p.aim w p.entries
+PlaceIs p (TableRead w) = IsWalking p.aim w p.entries
 PlaceIs p DataMask = Leads p
 PlaceIs p Data = Leads p
 
@@ -119,3 +125,9 @@ IsReached p On = IsPlaced p
 IsReached p (Granted value) = p.fill.to.page < 2 ^ 32
 IsReached p (Denied r) = r.gva ≡ Some p.aim.gva.0
 IsReached p (Fault fault) = Unit {0}
+
+-- an access for this has come to where this is left of it
+pub record Reaches (wanted : Aim) (new : Path) (reached : Reached) (tree : Tree Decision) : Type 0 where
+  pub rest : reached_rest new reached ≡ tree
+  pub is : IsReached new reached
+  pub aim : new.aim ≡ wanted

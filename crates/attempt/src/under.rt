@@ -1,8 +1,8 @@
 // An attempt that is under way.
-ghost use Rattle.std.specs.Prelude.{◌≡◌, ◌≤◌, take};
+ghost use Rattle.std.specs.Prelude.{◌≡◌, ◌≤◌, ◌∷◌, [], take};
 ghost use Rattle.attempt.specs.Unders.{departing, ended, left, made_by};
 
-use crate::place::{Aim, Fill, Path, Place};
+use crate::path::{Aim, Fill, Path, Place};
 use crate::plans::nothing;
 use crate::stage::{Asked, Decided, Head, Plan, Refusal, Site, Stage};
 use hyper_abi::Call;
@@ -37,6 +37,15 @@ pub fn front_of<const N: usize>(words: &[u64; 32]) -> [u64; N]
     let mut front = [0; N];
     front.copy_from_slice(&words[..N]);
     front
+}
+
+/// Two words go to the front of others.
+pub fn put_front<const N: usize>(words: &mut [u64; N], first: u64, second: u64)
+    requires { 2 ≤ N }
+    ensures { take 2 words.new ≡ first ∷ second ∷ [] }
+{
+    words[0] = first;
+    words[1] = second;
 }
 
 /// An access of which nothing is known.
@@ -137,6 +146,6 @@ impl Under {
     pub fn depart(&mut self, asked: Asked)
         ensures { self.new ≡ departing self.old asked }
     {
-        self.stage = Stage::Depart { asked };
+        self.stage = Stage::Depart(asked);
     }
 }

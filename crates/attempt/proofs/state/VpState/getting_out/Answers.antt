@@ -18,7 +18,7 @@ returns c =
     let plan : u.plan ≡ c.put_words.result = ap (λ (v : Under). v.plan) c.make.ensures in
     let decided : u.decided ≡ c.decided_by.result = ap (λ (v : Under). v.decided) c.make.ensures in
     let is : IsAt from u u.stage = subst (λ (s : Stage). IsAt from u s) (sym stage) (record {
-      plan = subst (λ (p : Plan). PlanIs p) (sym plan) c.put_words.ensures.is;
+      plan = subst (λ (p : Plan). PlanIs p) (sym plan) c.put_words.ensures.is.is;
       decided = subst (λ (d : Decided). DecidedIs from u d) (sym decided) (c.decided_by.ensures.is from u);
     }) in
     record { rest = search rules; is = is; op = search rules }

@@ -1,6 +1,7 @@
-use Rattle.std.proofs.Common.{◌≡◌, take, refl, sym, subst, rules}
-use Rattle.vsm_core.specs.Attempt.{by_input}
-use Rattle.vsm_core.specs.Outcomes.{Origin}
+use Rattle.std.proofs.Common.{◌≡◌, ◌∙◌, take, refl, sym, ap, subst, rules}
+use Rattle.vsm_core.specs.Attempt.{by_input, interrupts}
+use Rattle.vsm_core.specs.Outcomes.{Origin, Outcome}
+use Rattle.vsm_core.specs.Tree.{Tree, Asks, Leaving}
 use Rattle.hyper_abi.specs.Told.{row_for}
 use Rattle.attempt.specs.declared.under.Under.{Under}
 use Rattle.attempt.specs.Calls.{header_of}
@@ -30,4 +31,14 @@ returns-in-StartVirtualProcessor c =
           (sym c.depart-in-StartVirtualProcessor.ensures) (rw c.in-StartVirtualProcessor.is refl);
       is = search rules;
       op = search rules;
+    }
+
+pub returns-in-SendSyntheticClusterIpi : goal.returns-in-SendSyntheticClusterIpi
+returns-in-SendSyntheticClusterIpi c =
+    let from : Origin = origin_of c.args.self.now in
+    let sends = c.judged.ensures.rest ∙ ap (interrupts from) c.front_of.ensures in
+    record {
+      rest = rw c.in-SendSyntheticClusterIpi.is (ap (λ (t : Tree Outcome). Asks Leaving (λ _. t)) sends);
+      is = c.judged.ensures.is;
+      op = refl;
     }

@@ -4,9 +4,9 @@ use Rattle.vsm_core.specs.Walk.{Query, walk}
 use Rattle.vsm_core.specs.Access.{query_of}
 use Rattle.page_walk.specs.Half.{Stands}
 use Rattle.page_walk.specs.Told.{Tells}
-use Rattle.attempt.specs.Paths.{goal_of, reached_rest}
+use Rattle.attempt.specs.Paths.{Reaches, goal_of}
 use Rattle.attempt.proofs.Tables.{tables-on}
-use Rattle.attempt.proofs.place.Path.entered.Goals as goal
+use Rattle.attempt.proofs.path.Path.entered.Goals as goal
 
 -- the entry that was read is kept
 more : (c : goal.After-at_walk) → take (c.args.walking.taken + 1)
@@ -21,10 +21,7 @@ tells : (c : goal.After-at_walk) → (q : Query) → q ≡ query_of (goal_of c.a
     (slice_set c.args.self.now.entries c.args.walking.taken c.args.entry)))
 tells c q e = rw (more c, e) (c.next-step.ensures.told (query_of (goal_of c.args.self.now.aim)) _ c.requires.stands)
 
-pub returns-clause-rest : goal.returns-clause-rest
-returns-clause-rest c page index =
-    rw (← more c) (tables-on (λ t. reached_rest c.at_walk.new.self c.at_walk.result ≡ t) c.args.walking.taken _ _ _
-    c.requires.few (λ next few. c.at_walk.ensures.rest _ next (tells c _ refl) few))
-
-pub returns-clause-is : goal.returns-clause-is
-returns-clause-is c = c.at_walk.ensures.is _ (tells c _ refl)
+pub returns : goal.returns
+returns c =
+    rw (← more c) (tables-on (λ t. Reaches c.args.self.now.aim c.at_walk.new.self c.at_walk.result t)
+    c.args.walking.taken _ _ _ c.requires.few (λ next few. c.at_walk.ensures _ next (tells c _ refl) few))
