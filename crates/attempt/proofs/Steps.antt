@@ -27,8 +27,8 @@ data-asks Execute goal page mask generation fill = tt
 place-asks : (path : Path) (place : Place) → IsAsking (place_rest path place)
 place-asks path Start = tt
 place-asks path Check = tt
-place-asks path (TableMask walking) = tt
-place-asks path (TableRead walking) = tt
+place-asks path TableMask = tt
+place-asks path TableRead = tt
 place-asks path DataMask = tt
 place-asks path Data = data-asks path.aim.access _ _ _ _ _
 

@@ -1,10 +1,10 @@
 // One access under way: what it is for, how far it has come, and what is done by the answer of its next step.
-ghost use Rattle.std.specs.Prelude.{◌≡◌, ◌-◌, ◌<◌, ◌≤◌, ℕ, IfErr, OnOk, IsTrue, List, take};
+ghost use Rattle.std.specs.Prelude.{◌≡◌, ◌<◌, ◌≤◌, ℕ, IfErr, OnOk, IsTrue, List};
 ghost use Rattle.page_walk.specs.Half.{Stands};
 ghost use Rattle.page_walk.specs.Told.{Tells, GoesOn, translation_of};
 ghost use Rattle.vsm_base.specs.Masks.{is_mask};
 ghost use Rattle.vsm_core.specs.Access.{start_fault, Decision, at_table, at_page};
-ghost use Rattle.vsm_core.specs.Access.{from_check, query_of, by_mask, by_table_mask, tables};
+ghost use Rattle.vsm_core.specs.Access.{from_check, query_of, by_mask, by_table_mask};
 ghost use Rattle.vsm_core.specs.Tree.{after, Tree};
 ghost use Rattle.vsm_core.specs.Walk.{Walked, is_paging};
 ghost use Rattle.attempt.specs.Asked.{word_step};
@@ -52,16 +52,6 @@ pub struct Fill {
     pub generation: u64,
 }
 
-/// A walk that wants its next entry, after so many: the place of the entry, and the generation that was checked.
-#[derive(Clone, Copy)]
-pub struct Walking {
-    pub walk: Walk,
-    pub taken: u8,
-    pub generation: u64,
-    pub page: Page,
-    pub index: u16,
-}
-
 /// The step that comes next.
 #[derive(Clone, Copy)]
 pub enum Place {
@@ -70,22 +60,26 @@ pub enum Place {
     /// The generation is checked.
     Check,
     /// The mask of a table's page is loaded.
-    TableMask(Walking),
+    TableMask,
     /// An entry of a table is read.
-    TableRead(Walking),
+    TableRead,
     /// The mask of the page to which it leads is loaded.
     DataMask,
     /// The word itself is read or written.
     Data,
 }
 
-/// One access under way: what it is for, how far it has come, the entries that its walk has read, and where it leads,
-/// once that is known.
+/// One access under way: what it is for and how far it has come; its walk, how many entries that has taken, and which,
+/// and the place of the one that it wants; and where it leads. A part is known where the next step needs it.
 #[derive(Clone, Copy)]
 pub struct Path {
     pub aim: Aim,
     pub place: Place,
+    pub walk: Walk,
+    pub taken: u8,
     pub entries: [u64; 4],
+    pub page: Page,
+    pub index: u16,
     pub fill: Fill,
 }
 
@@ -140,8 +134,11 @@ impl Path {
         match self.place {
             Place::Start => Step::Enter,
             Place::Check => Step::Check,
-            Place::TableMask(Walking { page, .. }) => Step::Mask { page },
-            Place::TableRead(Walking { page, index, .. }) => Step::Read { page, index },
+            Place::TableMask => Step::Mask { page: self.page },
+            Place::TableRead => Step::Read {
+                page: self.page,
+                index: self.index,
+            },
             Place::DataMask => Step::Mask {
                 page: Page(self.fill.to.page as u32),
             },
@@ -169,8 +166,8 @@ impl Path {
                 Reached::On
             }
             Place::Check => self.checked(answer),
-            Place::TableMask(walking) => self.table_masked(mask_of(answer), walking),
-            Place::TableRead(walking) => self.entered(walking, answer),
+            Place::TableMask => self.table_masked(mask_of(answer)),
+            Place::TableRead => self.entered(answer),
             Place::DataMask => self.data_masked(mask_of(answer)),
             Place::Data => Reached::Granted(self.found(answer)),
         }
@@ -190,84 +187,69 @@ impl Path {
     fn checked(&mut self, generation: u64) -> Reached
         ensures { Reaches self.old.aim self.new result (from_check (goal_of self.old.aim) generation) }
     {
+        self.fill.generation = generation;
         if !paging(self.aim.cr0) {
-            let to = Translation {
+            return self.at_data(Translation {
                 page: self.aim.gva.0 / 4096,
                 write: true,
                 user: true,
                 execute: true,
-            };
-            return self.at_data(generation, to);
+            });
         }
         match Walk::start(self.aim.cr3, self.aim.gva, self.aim.access, self.aim.cpl) {
             Ok(walk) => {
                 let (page, index) = walk.first();
-                self.at_walk(walk, 0, generation, WalkStep::Need(page, index))
+                self.walk = walk;
+                self.taken = 0;
+                self.at_walk(WalkStep::Need(page, index))
             }
             Err(fault) => Reached::Fault(fault),
         }
     }
 
-    /// A walk that has taken so many entries wants one more, is at its end, or fails.
-    fn at_walk(&mut self, walk: Walk, taken: u8, generation: u64, step: WalkStep) -> Reached
-        requires goes_on { GoesOn step walk }
-        requires taken { taken ≤ 4 }
+    /// The walk wants an entry, is at its end, or fails.
+    fn at_walk(&mut self, step: WalkStep) -> Reached
+        requires goes_on { GoesOn step self.old.walk }
+        requires taken { self.old.taken ≤ 4 }
         ensures { (now : Walked) (next : List ℕ → Tree Decision)
-            → Tells step now (Stands walk (query_of (goal_of self.old.aim)) (take taken self.old.entries))
-            → (taken < 4 → next ≡ tables (3 - taken) (goal_of self.old.aim) generation)
-            → Reaches self.old.aim self.new result
-            (at_table next (goal_of self.old.aim) (take taken self.old.entries) generation now) }
+            → Tells step now (Stands self.old.walk (query_of (goal_of self.old.aim)) (taken_of self.old))
+            → (self.old.taken < 4 → next ≡ tables_of self.old) → Reaches self.old.aim self.new result
+            (at_table next (goal_of self.old.aim) (taken_of self.old) self.old.fill.generation now) }
     {
         match step {
-            WalkStep::Need(page, index) => {
-                if page >= u64::from(self.aim.pages) {
-                    return Reached::Fault(GuestFault::Unmapped);
-                }
-                let page = Page(page as u32);
-                self.wants(Walking {
-                    walk,
-                    taken,
-                    generation,
-                    page,
-                    index,
-                })
-            }
-            WalkStep::Mapped(to) => self.at_data(generation, to),
+            WalkStep::Need(page, _) if page >= u64::from(self.aim.pages) => Reached::Fault(
+                GuestFault::Unmapped,
+            ),
+            WalkStep::Need(page, index) => self.wants(Page(page as u32), index),
+            WalkStep::Mapped(to) => self.at_data(to),
             WalkStep::Fault(fault) => Reached::Fault(fault),
         }
     }
 
-    /// A walk has come to the table of its next entry, in a page that is there.
-    fn wants(&mut self, walking: Walking) -> Reached
-        ensures { IsWalking self.old.aim walking self.old.entries
-            → Reaches self.old.aim self.new result (table_rest self.old walking) }
+    /// The walk has come to the table of its next entry, in a page that is there.
+    fn wants(&mut self, page: Page, index: u16) -> Reached
+        ensures { IsWalking self.old → Reaches self.old.aim self.new result (table_rest self.old page.0 index) }
     {
+        self.page = page;
+        self.index = index;
         match self.aim.level {
-            Vtl::Zero => {
-                self.place = Place::TableMask(walking);
-                Reached::On
-            }
-            Vtl::One => {
-                self.place = Place::TableRead(walking);
-                Reached::On
-            }
+            Vtl::Zero => self.place = Place::TableMask,
+            Vtl::One => self.place = Place::TableRead,
         }
+        Reached::On
     }
 
     /// The data page is known.
-    fn at_data(&mut self, generation: u64, to: Translation) -> Reached
+    fn at_data(&mut self, to: Translation) -> Reached
         ensures { Reaches self.old.aim self.new result
-            (at_page (goal_of self.old.aim) (translation_of to) generation) }
+            (at_page (goal_of self.old.aim) (translation_of to) self.old.fill.generation) }
     {
         if to.page >= u64::from(self.aim.pages) {
             return Reached::Fault(GuestFault::Unmapped);
         }
-        self.fill = Fill {
-            at: self.aim.gva.0 / 4096,
-            to,
-            mask: None,
-            generation,
-        };
+        self.fill.at = self.aim.gva.0 / 4096;
+        self.fill.to = to;
+        self.fill.mask = None;
         match self.aim.level {
             Vtl::Zero => self.place = Place::DataMask,
             Vtl::One => self.place = Place::Data,
@@ -276,36 +258,36 @@ impl Path {
     }
 
     /// The mask of a table's page is known.
-    fn table_masked(&mut self, mask: Mask, walking: Walking) -> Reached
-        requires { IsWalking self.old.aim walking self.old.entries }
-        ensures { Reaches self.old.aim self.new result (by_table_mask (tables_of self.old walking)
-            (taken_of self.old walking) walking.generation walking.page.0 walking.index mask) }
+    fn table_masked(&mut self, mask: Mask) -> Reached
+        requires { IsWalking self.old }
+        ensures { Reaches self.old.aim self.new result (by_table_mask (tables_of self.old) (taken_of self.old)
+            self.old.fill.generation self.old.page.0 self.old.index mask) }
     {
         if mask.allows(Access::Read) {
-            self.place = Place::TableRead(walking);
+            self.place = Place::TableRead;
             return Reached::On;
         }
+        let index = self.index;
         Reached::Denied(Refusal {
-            page: walking.page,
+            page: self.page,
             mask,
-            generation: walking.generation,
+            generation: self.fill.generation,
             access: Access::Read,
             gva: Some(self.aim.gva.0),
-            gpa: u64::from(walking.page.0) * 4096 + u64::from(walking.index) * 8,
+            gpa: u64::from(self.page.0) * 4096 + u64::from(index) * 8,
             filled: false,
         })
     }
 
     /// An entry of a table is read.
-    fn entered(&mut self, walking: Walking, entry: u64) -> Reached
-        requires { IsWalking self.old.aim walking self.old.entries }
-        ensures { Reaches self.old.aim self.new result
-            (after (place_rest self.old (Place.TableRead walking)) entry) }
+    fn entered(&mut self, entry: u64) -> Reached
+        requires { IsWalking self.old }
+        ensures { Reaches self.old.aim self.new result (after (place_rest self.old Place.TableRead) entry) }
     {
-        let mut walk = walking.walk;
-        let step = walk.next(entry);
-        self.entries[walking.taken as usize] = entry;
-        self.at_walk(walk, walking.taken + 1, walking.generation, step)
+        let step = self.walk.next(entry);
+        self.entries[self.taken as usize] = entry;
+        self.taken += 1;
+        self.at_walk(step)
     }
 
     /// The mask of the data page is known.

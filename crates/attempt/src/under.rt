@@ -6,7 +6,7 @@ use crate::path::{Aim, Fill, Path, Place};
 use crate::plans::nothing;
 use crate::stage::{Asked, Decided, Head, Plan, Refusal, Site, Stage};
 use hyper_abi::Call;
-use page_walk::Translation;
+use page_walk::{Translation, Walk};
 use vsm_base::{Access, Gva, Mask, Page, Vtl};
 use vsm_core::Op;
 
@@ -50,6 +50,9 @@ pub fn put_front<const N: usize>(words: &mut [u64; N], first: u64, second: u64)
 
 /// An access of which nothing is known.
 fn no_path() -> Path {
+    let Ok(walk) = Walk::start(0, Gva(0), Access::Read, 0) else {
+        unreachable!()
+    };
     let aim = Aim {
         level: Vtl::Zero,
         cpl: 0,
@@ -77,7 +80,11 @@ fn no_path() -> Path {
     Path {
         aim,
         place: Place::Start,
+        walk,
+        taken: 0,
         entries: [0; 4],
+        page: Page(0),
+        index: 0,
         fill,
     }
 }

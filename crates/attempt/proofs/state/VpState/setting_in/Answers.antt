@@ -25,7 +25,7 @@ returns-in-None c =
     at c.write_in.ensures in
     record {
       rest = ap (rest_of from) c.leave.ensures
-      ∙ sets-done from c.args.target c.args.under.now.slice (rw (← active) (sym told));
+          ∙ sets-done from c.args.target c.args.under.now.slice (rw (← active) (sym told));
       is = search rules;
       op = search rules;
     }
