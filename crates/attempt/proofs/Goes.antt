@@ -5,7 +5,8 @@ use Rattle.vsm_core.specs.Attempt.{left_with}
 use Rattle.vsm_core.specs.Outcomes.{Origin, Outcome}
 use Rattle.vsm_core.specs.Tree.{Tree, Ends, Asks, Wants, WordStep, asks_all, reads, then_}
 use Rattle.attempt.specs.declared.stage.Stage.{Stage}
-use Rattle.attempt.specs.declared.stage.Stage.TheVariants.{Access, Enter, Check, Mask, Look, Rax, Rcx, Header, Slice, Make, Take, Depart, Want, Quit, Send, End}
+use Rattle.attempt.specs.declared.stage.Stage.TheVariants.{Access, Enter, Check, Mask, Look, Rax, Rcx, Header, Slice}
+use Rattle.attempt.specs.declared.stage.Stage.TheVariants.{Make, Take, Depart, Want, Quit, Send, End}
 use Rattle.attempt.specs.declared.under.Under.{Under}
 use Rattle.attempt.specs.Heads.{GoesOn}
 use Rattle.attempt.specs.Nexts.{IsAsking}

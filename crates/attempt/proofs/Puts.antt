@@ -1,5 +1,6 @@
 -- What is put out.
-use Rattle.std.proofs.Common.{◌≡◌, ◌∙◌, ◌+◌, ◌*◌, ◌/◌, ◌%◌, ◌^◌, ◌<◌, ◌≤◌, ℕ, Option, Some, None, List, [], ◌∷◌, ◌++◌, length, take, slice_set, refl, sym, ap, arith}
+use Rattle.std.proofs.Common.{◌≡◌, ◌∙◌, ◌+◌, ◌*◌, ◌/◌, ◌%◌, ◌^◌, ◌<◌, ◌≤◌, ℕ, Option, Some, None, List, [], ◌∷◌, ◌++◌}
+use Rattle.std.proofs.Common.{length, take, slice_set, refl, sym, ap, arith}
 use Rattle.std.proofs.lemmas.List.{append-nil, take_at}
 use Rattle.vsm_core.specs.Attempt.{behind_page_mask, in_access_from, left_with, looked_by}
 use Rattle.vsm_core.specs.Controllers.{rings, writes}
@@ -61,19 +62,8 @@ pub puts-value : (from : Origin) (u : Under) (site : Site) (at : ℕ) (reply : R
     → result_of from u ≡ result_outcome from from.state reply.status reply.done
     → in_access_from (inner_rest from u (Page (record { site = site; behind = Make }))) ≡ looked_by from reply
 puts-value from u site at reply here place steps result =
-    let out : Tree Outcome = asks_all (writes (site.address / 4096) at (value_words reply.value)) (left_with
-    (result_outcome from from.state reply.status reply.done)) in
-    let made : made_rest from u ≡ out =
-    ap (λ s. asks_all s (left_with (result_of from u))) steps
-    ∙ ap (λ o. asks_all (writes (site.address / 4096) at (value_words reply.value)) (left_with o)) result in
-    ap (λ t. in_access_from (λ generation. behind_page_mask from.state.active from Write site.address generation t))
-    made
-    ∙ ap (λ a. in_access_from (λ generation. behind_page_mask from.state.active from Write site.address generation
-    (asks_all (writes (site.address / 4096) a (value_words reply.value)) (left_with
-    (result_outcome from from.state reply.status reply.done))))) place
-    ∙ ap (λ a. in_access_from (λ generation. behind_page_mask from.state.active from Write a generation
-    (asks_all (writes (a / 4096) (a % 4096 / 8 + 2 * start_of from) (value_words reply.value)) (left_with
-    (result_outcome from from.state reply.status reply.done))))) here
+    ap (λ s. in_access_from (λ generation. behind_page_mask from.state.active from Write site.address generation
+    (asks_all s (left_with (result_of from u))))) steps ∙ rw (result, place, here) refl
 
 -- no answer to a planned step says anything
 pub asks-same : (steps : List WordStep) (o : Outcome) (x y : ℕ)

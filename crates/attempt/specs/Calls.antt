@@ -19,7 +19,8 @@ use Rattle.hyper_abi.specs.declared.interrupt.Interrupt.{Interrupt}
 use Rattle.hyper_abi.specs.Told.{row_for}
 use Rattle.rep_frame.specs.Asks.{look_call}
 use Rattle.attempt.specs.declared.stage.Asked.{Asked}
-use Rattle.attempt.specs.declared.stage.Asked.TheVariants.{EnablePartition, EnableVp, Start, Modify, Flush, Write as Configure, Look}
+use Rattle.attempt.specs.declared.stage.Asked.TheVariants.{EnablePartition, EnableVp, Start, Modify, Flush}
+use Rattle.attempt.specs.declared.stage.Asked.TheVariants.{Write as Configure, Look}
 use Rattle.attempt.specs.declared.stage.Behind.{Behind}
 use Rattle.attempt.specs.declared.stage.Behind.TheVariants.{Input, Words, Make}
 use Rattle.attempt.specs.declared.stage.Sending.{Sending}

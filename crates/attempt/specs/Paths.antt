@@ -1,9 +1,11 @@
 -- What is left of an access where it has come to.
-use Rattle.std.specs.Prelude.{◌≡◌, ℕ, ◌-◌, ◌/◌, ◌^◌, ◌<◌, Bool, true, false, if◌then◌else◌, Option, Some, None, List, take}
+use Rattle.std.specs.Prelude.{◌≡◌, ℕ, ◌-◌, ◌/◌, ◌^◌, ◌<◌, Bool, true, false, if◌then◌else◌, Option, Some, None, List}
+use Rattle.std.specs.Prelude.{take}
 use Rattle.vsm_base.specs.declared.places.Access.{Access}
 use Rattle.vsm_base.specs.declared.places.Access.TheVariants.{Read, Write, Execute}
 use Rattle.vsm_core.specs.declared.mark.Grant.{Grant}
-use Rattle.vsm_core.specs.Access.{Goal, Decision, Grants, Denies, Faults, access, from_check, query_of, tables, by_table_mask, entry_step, by_mask, behind_mask, reaches}
+use Rattle.vsm_core.specs.Access.{Goal, Decision, Grants, Denies, Faults, access, from_check, query_of, tables}
+use Rattle.vsm_core.specs.Access.{by_table_mask, entry_step, by_mask, behind_mask, reaches}
 use Rattle.vsm_core.specs.Fills.{Fill}
 use Rattle.vsm_core.specs.Tree.{Tree, Ends, Asks, Checking, Masking}
 use Rattle.page_walk.specs.Half.{Stands}

@@ -1,11 +1,14 @@
 -- What is left of an attempt at its stages.
-use Rattle.std.specs.Prelude.{◌≡◌, ℕ, ◌+◌, ◌*◌, ◌/◌, ◌%◌, ◌^◌, ◌<◌, ◌≤◌, true, false, is_some, Option, Some, None, IfSome, List, ◌++◌, take, drop}
+use Rattle.std.specs.Prelude.{◌≡◌, ℕ, ◌+◌, ◌*◌, ◌/◌, ◌%◌, ◌^◌, ◌<◌, ◌≤◌, true, false, is_some, Option, Some, None}
+use Rattle.std.specs.Prelude.{IfSome, List, ◌++◌, take, drop}
 use Rattle.vsm_base.specs.declared.places.Access.{Access as Reach}
 use Rattle.vsm_base.specs.declared.places.Access.TheVariants.{Write}
 use Rattle.vsm_base.specs.declared.name.Name.{Name}
 use Rattle.vsm_core.specs.declared.note.Note.{Note}
 use Rattle.vsm_core.specs.declared.operation.Op.{Op}
-use Rattle.vsm_core.specs.Attempt.{left_with, in_access_from, posting, told_on, tells, hit_tells, sends, polled, leaves, by_page_mask, behind_page_mask, reads_input, reads_slice, by_input, by_access, goal_of}
+use Rattle.vsm_core.specs.Attempt.{left_with, in_access_from, posting, told_on, tells, hit_tells, sends, polled, leaves}
+use Rattle.vsm_core.specs.Attempt.{by_page_mask, behind_page_mask, reads_input, reads_slice, by_input, by_access}
+use Rattle.vsm_core.specs.Attempt.{goal_of}
 use Rattle.vsm_core.specs.Controllers.{message_page, vector_words}
 use Rattle.vsm_core.specs.Hypercalls.{has_output, output_address}
 use Rattle.vsm_core.specs.Outcomes.{Origin, Outcome, note_of, plain, register_note}
@@ -27,7 +30,8 @@ use Rattle.attempt.specs.declared.stage.Inner.TheVariants as inners
 use Rattle.attempt.specs.declared.stage.Matter.{Matter}
 use Rattle.attempt.specs.declared.stage.Matter.TheVariants.{Denial, Hit, Ending}
 use Rattle.attempt.specs.declared.stage.Stage.{Stage}
-use Rattle.attempt.specs.declared.stage.Stage.TheVariants.{Access, Enter, Check, Mask, Look, Rax, Rcx, Header, Slice, Make, Take, Depart, Want, Quit, Send, End}
+use Rattle.attempt.specs.declared.stage.Stage.TheVariants.{Access, Enter, Check, Mask, Look, Rax, Rcx, Header, Slice}
+use Rattle.attempt.specs.declared.stage.Stage.TheVariants.{Make, Take, Depart, Want, Quit, Send, End}
 use Rattle.attempt.specs.declared.under.Under.{Under}
 use Rattle.attempt.specs.Calls.{AskedIs, SendIs, access_of, asks_for, header_of, header_words, sends_now}
 use Rattle.attempt.specs.Paths.{IsPlaced, is_aligned, path_rest}

@@ -425,14 +425,10 @@ impl VpState {
         ensures { Moves self.now under.old under.new
             (λ from. output_masked from under.old.head.output generation (words_rest from under.old)) }
     {
-        let Some(site) = under.head.output else {
-            self.words(under);
-            return;
-        };
         let behind = Behind::Words;
-        match self.levels.active() {
-            Vtl::Zero => under.stage = Stage::Mask(Gate { site, behind }, generation),
-            Vtl::One => self.words(under),
+        match (self.levels.active(), under.head.output) {
+            (Vtl::Zero, Some(site)) => under.stage = Stage::Mask(Gate { site, behind }, generation),
+            _ => self.words(under),
         }
     }
 

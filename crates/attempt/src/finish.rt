@@ -3,7 +3,7 @@ ghost use Rattle.std.specs.Prelude.{◌≡◌, ◌<◌, ◌≤◌, ◌^◌, [], 
 ghost use Rattle.synic.specs.Ends.{eom_word};
 ghost use Rattle.vsm_core.specs.Fills.{Cached};
 ghost use Rattle.attempt.specs.Cited.{ack_outcome, called, count_of, denied_lem, eoi_outcome, eom_outcome, frame_of};
-ghost use Rattle.attempt.specs.Cited.{get_outcome, gone_on, gone_to, jumped, may_call_lem, may_return_lem};
+ghost use Rattle.attempt.specs.Cited.{get_outcome, gone_on, jumped, may_call_lem, may_return_lem};
 ghost use Rattle.attempt.specs.Cited.{part_outcome, put_legal_lem, returned, set_outcome, start_of, with_context};
 ghost use Rattle.attempt.specs.Cited.{with_result, with_start_lem, with_taken, Origin};
 ghost use Rattle.attempt.specs.Comings.{Comes};
@@ -139,20 +139,13 @@ impl VpState {
         What::Value(value)
     }
 
-    /// The active level's program then stands there.
-    fn go_to(&mut self, rip: u64)
-        ensures { self.new ≡ record self.old { state = gone_to self.old.state rip } }
-    {
-        self.put_legal(Name::Rip, u128::from(rip));
-    }
-
     fn jump_ne(&mut self, name: Name, value: u64, rip: u64)
         ensures { self.new ≡ record self.old { state = jumped self.old.state name value rip } }
     {
         if word_of(&self.bank, &self.levels, name) == value {
             self.go_on();
         } else {
-            self.go_to(rip);
+            self.put_legal(Name::Rip, u128::from(rip));
         }
     }
 
@@ -190,7 +183,7 @@ impl VpState {
             Op::Set(name, value) => self.set(*name, *value),
             Op::Get(name) => self.get(*name),
             Op::Jump(rip) => {
-                self.go_to(*rip);
+                self.put_legal(Name::Rip, u128::from(*rip));
                 What::Plain
             }
             Op::JumpNe(name, value, rip) => {
