@@ -130,14 +130,12 @@ impl VpState {
         ensures is { IsUntold result }
     {
         output[..12].copy_from_slice(words);
+        let vector = self.sint0_vector();
         Plan {
             page,
-            at: 0,
-            next: 0,
             count: 12,
-            vector: self.sint0_vector(),
-            told: None,
-            reason: BY_INTERRUPT,
+            vector,
+            ..nothing(None, BY_INTERRUPT)
         }
     }
 
