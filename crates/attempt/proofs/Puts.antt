@@ -7,7 +7,7 @@ use Rattle.vsm_core.specs.Controllers.{rings, writes}
 use Rattle.vsm_core.specs.Hypercalls.{output_address, result_outcome}
 use Rattle.vsm_core.specs.Outcomes.{Origin, Outcome}
 use Rattle.vsm_core.specs.RegisterCalls.{start_of, value_words}
-use Rattle.vsm_core.specs.Tree.{Tree, WordStep, after, asks_all}
+use Rattle.vsm_core.specs.Tree.{WordStep, after, asks_all}
 use Rattle.vsm_base.specs.declared.places.Access.TheVariants.{Write}
 use Rattle.vsm_core.specs.declared.request.Reply.{Reply}
 use Rattle.vsm_base.specs.declared.places.Vtl.{Vtl}
@@ -26,7 +26,7 @@ use Rattle.attempt.specs.declared.stage.Behind.TheVariants.{Make}
 use Rattle.attempt.specs.declared.stage.Inner.TheVariants.{Page}
 use Rattle.attempt.specs.declared.under.Under.{Under}
 use Rattle.attempt.specs.Plans.{planned}
-use Rattle.attempt.specs.Rests.{inner_rest, made_rest}
+use Rattle.attempt.specs.Rests.{inner_rest}
 use Rattle.attempt.specs.Results.{result_of}
 
 -- a value of 64 bits is its low word

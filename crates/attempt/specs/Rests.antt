@@ -24,7 +24,6 @@ use Rattle.attempt.specs.declared.stage.Refusal.{Refusal}
 use Rattle.attempt.specs.declared.stage.Site.{Site}
 use Rattle.attempt.specs.declared.stage.Behind.{Behind}
 use Rattle.attempt.specs.declared.stage.Behind.TheVariants as behinds
-use Rattle.attempt.specs.declared.stage.Gate.{Gate}
 use Rattle.attempt.specs.declared.stage.Inner.{Inner}
 use Rattle.attempt.specs.declared.stage.Inner.TheVariants as inners
 use Rattle.attempt.specs.declared.stage.Matter.{Matter}

@@ -1,4 +1,4 @@
-use Rattle.std.proofs.Common.{◌≡◌, ◌∙◌, sym, ap, rules}
+use Rattle.std.proofs.Common.{◌∙◌, sym, ap, rules}
 use Rattle.attempt.specs.Rests.{rest_of}
 use Rattle.attempt.specs.Views.{VpView, origin_of}
 use Rattle.attempt.proofs.Puts.{sets-asked, sets-done}
