@@ -22,7 +22,8 @@ returns-in-Ok c =
     let from = origin_of c.args.self.now in
     let granted = granted_of from.state c.args.under.now.op in
     record {
-      rest = begun-none from granted (goal_of c.aim-aim.result) _ c.in-Ok.ensures.ok ∙ ap (by_access from granted) c.aim-aim.ensures;
+      rest = begun-none from granted (goal_of c.aim-aim.result) _ c.in-Ok.ensures.ok
+          ∙ ap (by_access from granted) c.aim-aim.ensures;
       is = search rules;
       op = search rules;
     }
