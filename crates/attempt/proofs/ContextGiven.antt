@@ -1,5 +1,6 @@
 -- What a context does to a level.
-use Rattle.std.proofs.Common.{◌≡◌, ◌&&◌, ◌↔◌, Bool, true, false, not, cond, Some, List, ℕ, Result, Ok, Err, IsErr, IsTrue, OnOk, OnErr, refl, ap, ◌∙◌}
+use Rattle.std.proofs.Common.{◌≡◌, ◌&&◌, ◌↔◌, Bool, true, false, not, cond, Some, List, ℕ, Result, Ok, Err, IsErr}
+use Rattle.std.proofs.Common.{IsTrue, OnOk, OnErr, refl, ap, ◌∙◌}
 use Rattle.vsm_base.specs.declared.places.Vtl.{Vtl}
 use Rattle.vsm_base.specs.declared.places.Vtl.TheVariants.{Zero, One}
 use Rattle.vsm_base.specs.declared.status.HvStatus.{HvStatus}

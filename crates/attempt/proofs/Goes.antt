@@ -5,7 +5,8 @@ use Rattle.vsm_core.specs.Attempt.{left_with}
 use Rattle.vsm_core.specs.Outcomes.{Origin, Outcome}
 use Rattle.vsm_core.specs.Tree.{Tree, Ends, Asks, Wants, WordStep, asks_all, reads, then_}
 use Rattle.attempt.specs.declared.stage.Stage.{Stage}
-use Rattle.attempt.specs.declared.stage.Stage.TheVariants.{Access, Enter, Check, Mask, Look, Rax, Rcx, Header, Slice, Make, Take, Depart, Want, Quit, Send, End}
+use Rattle.attempt.specs.declared.stage.Stage.TheVariants.{Access, Enter, Check, Mask, Look, Rax, Rcx, Header, Slice}
+use Rattle.attempt.specs.declared.stage.Stage.TheVariants.{Make, Take, Depart, Want, Quit, Send, End}
 use Rattle.attempt.specs.declared.under.Under.{Under}
 use Rattle.attempt.specs.Heads.{GoesOn}
 use Rattle.attempt.specs.Nexts.{IsAsking}
@@ -35,7 +36,7 @@ module _ (from : Origin) (u : Under) where
   stage-goes Access is other = then-goes (path_rest u.path) _ (path-asks u.path)
   stage-goes (Enter inner) is other = tt
   stage-goes (Check inner) is other = tt
-  stage-goes (Mask gate) is other = tt
+  stage-goes (Mask gate generation) is other = tt
   stage-goes (Look page matter) is other = tt
   stage-goes (Rax page) is other = tt
   stage-goes (Rcx page rax) is other = tt
@@ -45,6 +46,6 @@ module _ (from : Origin) (u : Under) where
   stage-goes (Take count) is other = rw (next-taken count is) tt
   stage-goes (Depart asked) is other = tt
   stage-goes (Want asked) is other = tt
-  stage-goes (Quit sending) is other = tt
+  stage-goes (Quit sends) is other = tt
   stage-goes (Send sending) is other = tt
   stage-goes End is other = absurd (other refl)

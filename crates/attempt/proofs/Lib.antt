@@ -1,10 +1,7 @@
-pub mod Begins
 pub mod ContextGiven
 pub mod Goes
-pub mod Inputs
 pub mod Polls
 pub mod Puts
 pub mod Sendings
-pub mod Starts
 pub mod Steps
 pub mod Tables

@@ -26,9 +26,9 @@ pub few-bits : (n vps : ℕ) → vps ≤ 8 → n < 2 ^ vps → n < 2 ^ 8
 few-bits n vps few low = omega (arith, low, pow-le-pow_right {n = 2} (lit< tt) few)
 
 -- all posts of a call that nothing refuses
-pub all-sent : (from : Origin) (i : Interrupt) (header : List ℕ) (vps : ℕ)
-    → i.level ≡ interrupted_level from.state.active header → i.vector ≡ vector_in header
-    → i.processors ≡ processors_in header → vps ≡ from.vps → interrupts_by from header None ≡ sends_from from i 0 vps
-all-sent from i header vps level vector processors same =
-    let all : vps - 0 ≡ from.vps = omega (arith, same) in
+pub all-sent : (from : Origin) (i : Interrupt) (header : List ℕ) → i.level ≡ interrupted_level from.state.active header
+    → i.vector ≡ vector_in header → i.processors ≡ processors_in header
+    → interrupts_by from header None ≡ sends_from from i 0
+all-sent from i header level vector processors =
+    let all : from.vps - 0 ≡ from.vps = omega arith in
     rw (all, level, vector, processors) refl

@@ -6,9 +6,9 @@ use Rattle.vsm_base.specs.declared.places.Access.TheVariants.{Read, Write, Execu
 use Rattle.vsm_core.specs.Access.{Goal, data_step}
 use Rattle.vsm_core.specs.Fills.{Fill}
 use Rattle.vsm_core.specs.Tree.{Tree, Ends, Asks, Wants, after, then_}
-use Rattle.attempt.specs.declared.place.Path.{Path}
-use Rattle.attempt.specs.declared.place.Place.{Place}
-use Rattle.attempt.specs.declared.place.Place.TheVariants.{Start, Check, TableMask, TableRead, DataMask, Data}
+use Rattle.attempt.specs.declared.path.Path.{Path}
+use Rattle.attempt.specs.declared.path.Place.{Place}
+use Rattle.attempt.specs.declared.path.Place.TheVariants.{Start, Check, TableMask, TableRead, DataMask, Data}
 use Rattle.attempt.specs.Nexts.{IsAsking}
 use Rattle.attempt.specs.Paths.{path_rest, place_rest}
 
@@ -27,8 +27,8 @@ data-asks Execute goal page mask generation fill = tt
 place-asks : (path : Path) (place : Place) → IsAsking (place_rest path place)
 place-asks path Start = tt
 place-asks path Check = tt
-place-asks path (TableMask walking page index) = tt
-place-asks path (TableRead walking page index) = tt
+place-asks path TableMask = tt
+place-asks path TableRead = tt
 place-asks path DataMask = tt
 place-asks path Data = data-asks path.aim.access _ _ _ _ _
 

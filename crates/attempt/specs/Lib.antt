@@ -1,5 +1,6 @@
 pub mod Asked
 pub mod Calls
+pub mod Cited
 pub mod Comings
 pub mod Heads
 pub mod Nexts

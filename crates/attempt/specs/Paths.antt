@@ -1,21 +1,22 @@
 -- What is left of an access where it has come to.
-use Rattle.std.specs.Prelude.{◌≡◌, ℕ, ◌-◌, ◌/◌, ◌^◌, ◌<◌, Bool, true, false, if◌then◌else◌, Option, Some, None, List, take}
+use Rattle.std.specs.Prelude.{◌≡◌, ℕ, ◌-◌, ◌/◌, ◌^◌, ◌<◌, Bool, true, false, if◌then◌else◌, Option, Some, None, List}
+use Rattle.std.specs.Prelude.{take}
 use Rattle.vsm_base.specs.declared.places.Access.{Access}
 use Rattle.vsm_base.specs.declared.places.Access.TheVariants.{Read, Write, Execute}
 use Rattle.vsm_core.specs.declared.mark.Grant.{Grant}
-use Rattle.vsm_core.specs.Access.{Goal, Decision, Grants, Denies, Faults, access, from_check, query_of, tables, by_table_mask, entry_step, by_mask, reaches}
+use Rattle.vsm_core.specs.Access.{Goal, Decision, Grants, Denies, Faults, access, from_check, query_of, tables}
+use Rattle.vsm_core.specs.Access.{by_table_mask, entry_step, by_mask, behind_mask, reaches}
 use Rattle.vsm_core.specs.Fills.{Fill}
 use Rattle.vsm_core.specs.Tree.{Tree, Ends, Asks, Checking, Masking}
 use Rattle.page_walk.specs.Half.{Stands}
 use Rattle.page_walk.specs.Told.{translation_of}
-use Rattle.attempt.specs.declared.place.Aim.{Aim}
-use Rattle.attempt.specs.declared.place.Fill.{Fill as Kept}
-use Rattle.attempt.specs.declared.place.Path.{Path}
-use Rattle.attempt.specs.declared.place.Place.{Place}
-use Rattle.attempt.specs.declared.place.Place.TheVariants.{Start, Check, TableMask, TableRead, DataMask, Data}
-use Rattle.attempt.specs.declared.place.Reached.{Reached}
-use Rattle.attempt.specs.declared.place.Reached.TheVariants.{On, Granted, Denied, Fault}
-use Rattle.attempt.specs.declared.place.Walking.{Walking}
+use Rattle.attempt.specs.declared.path.Aim.{Aim}
+use Rattle.attempt.specs.declared.path.Fill.{Fill as Kept}
+use Rattle.attempt.specs.declared.path.Path.{Path}
+use Rattle.attempt.specs.declared.path.Place.{Place}
+use Rattle.attempt.specs.declared.path.Place.TheVariants.{Start, Check, TableMask, TableRead, DataMask, Data}
+use Rattle.attempt.specs.declared.path.Reached.{Reached}
+use Rattle.attempt.specs.declared.path.Reached.TheVariants.{On, Granted, Denied, Fault}
 
 -- the access that an aim asks for
 abbrev pub goal_of : Aim → Goal
@@ -62,21 +63,27 @@ found_by Read value answer = answer
 found_by Write value answer = value
 found_by Execute value answer = answer
 
--- the entries that a walk has taken
-abbrev pub taken_of : Path → Walking → List ℕ
-taken_of p w = take w.taken p.entries
+-- the entries that the walk has taken
+abbrev pub taken_of : Path → List ℕ
+taken_of p = take p.taken p.entries
 
--- the tables that are left of a walk
-abbrev pub tables_of : Path → Walking → List ℕ → Tree Decision
-tables_of p w = tables (3 - w.taken) (goal_of p.aim) w.generation
+-- the tables that are left of the walk
+abbrev pub tables_of : Path → List ℕ → Tree Decision
+tables_of p = tables (3 - p.taken) (goal_of p.aim) p.fill.generation
+
+-- what is left where the walk has come to the table of its next entry
+abbrev pub table_rest : Path → (page index : ℕ) → Tree Decision
+table_rest p page index = behind_mask p.aim.level page
+    (by_table_mask (tables_of p) (taken_of p) p.fill.generation page index)
+    (entry_step (tables_of p) (taken_of p) page index)
 
 -- what is left of the access from this place on
 abbrev pub place_rest : Path → Place → Tree Decision
 place_rest p Start = access (goal_of p.aim)
 place_rest p Check = Asks Checking (from_check (goal_of p.aim))
-place_rest p (TableMask w page index) = Asks (Masking page.0)
-    (by_table_mask (tables_of p w) (taken_of p w) w.generation page.0 index)
-place_rest p (TableRead w page index) = entry_step (tables_of p w) (taken_of p w) page.0 index
+place_rest p TableMask = Asks (Masking p.page.0)
+    (by_table_mask (tables_of p) (taken_of p) p.fill.generation p.page.0 p.index)
+place_rest p TableRead = entry_step (tables_of p) (taken_of p) p.page.0 p.index
 place_rest p DataMask = Asks (Masking p.fill.to.page)
     (by_mask (goal_of p.aim) (translation_of p.fill.to) p.fill.generation)
 place_rest p Data = reaches (goal_of p.aim) (translation_of p.fill.to) p.fill.generation p.fill.mask
@@ -90,11 +97,11 @@ reached_rest p (Granted value) = Ends (Grants (grant_of p.fill value) (Some (fil
 reached_rest p (Denied r) = Ends (Denies r.page.0 r.mask r.generation r.access r.gpa (filled_by p r.filled))
 reached_rest p (Fault fault) = Ends (Faults fault)
 
--- a walk that wants the entry after these
-pub record IsWalking (aim : Aim) (w : Walking) (entries : List ℕ) : Type 0 where
-  pub depth : w.walk.depth < 4
-  pub few : w.taken < 4
-  pub stands : Stands w.walk (query_of (goal_of aim)) (take w.taken entries)
+-- its walk wants one more entry
+pub record IsWalking (p : Path) : Type 0 where
+  pub depth : p.walk.depth < 4
+  pub few : p.taken < 4
+  pub stands : Stands p.walk (query_of (goal_of p.aim)) (taken_of p)
 
 -- it leads to a page, from the address that it is for
 pub record Leads (p : Path) : Type 0 where
@@ -105,8 +112,8 @@ pub record Leads (p : Path) : Type 0 where
 abbrev pub PlaceIs : Path → Place → Type 0
 PlaceIs p Start = Unit {0}
 PlaceIs p Check = Unit {0}
-PlaceIs p (TableMask w page index) = IsWalking p.aim w p.entries
-PlaceIs p (TableRead w page index) = IsWalking p.aim w p.entries
+PlaceIs p TableMask = IsWalking p
+PlaceIs p TableRead = IsWalking p
 PlaceIs p DataMask = Leads p
 PlaceIs p Data = Leads p
 
@@ -119,3 +126,9 @@ IsReached p On = IsPlaced p
 IsReached p (Granted value) = p.fill.to.page < 2 ^ 32
 IsReached p (Denied r) = r.gva ≡ Some p.aim.gva.0
 IsReached p (Fault fault) = Unit {0}
+
+-- an access for this has come to where this is left of it
+pub record Reaches (wanted : Aim) (new : Path) (reached : Reached) (tree : Tree Decision) : Type 0 where
+  pub rest : reached_rest new reached ≡ tree
+  pub is : IsReached new reached
+  pub aim : new.aim ≡ wanted

@@ -19,6 +19,12 @@ pub record PlanIs (plan : Plan) : Type 0 where
   pub few : plan.count ≤ 16
   pub inside : plan.at + plan.count ≤ 512
 
+-- the assist page isn't told by it yet; an interrupt would be the reason
+pub record IsUntold (plan : Plan) : Type 0 where
+  pub told : plan.told ≡ None
+  pub reason : plan.reason ≡ 2
+  pub is : PlanIs plan
+
 -- the first step was taken from a plan, if it had one
 abbrev pub IsPopped : ℕ → List ℕ → Plan → Plan → Option Step → Type 0
 IsPopped number words old new None = planned number words old ≡ []

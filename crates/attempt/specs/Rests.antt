@@ -1,11 +1,14 @@
 -- What is left of an attempt at its stages.
-use Rattle.std.specs.Prelude.{◌≡◌, ℕ, ◌+◌, ◌*◌, ◌/◌, ◌%◌, ◌^◌, ◌<◌, ◌≤◌, true, false, is_some, Option, Some, None, IfSome, List, ◌++◌, take, drop}
+use Rattle.std.specs.Prelude.{◌≡◌, ℕ, ◌+◌, ◌*◌, ◌/◌, ◌%◌, ◌^◌, ◌<◌, ◌≤◌, true, false, is_some, Option, Some, None}
+use Rattle.std.specs.Prelude.{IfSome, List, ◌++◌, take, drop}
 use Rattle.vsm_base.specs.declared.places.Access.{Access as Reach}
-use Rattle.vsm_base.specs.declared.places.Access.TheVariants.{Read, Write}
+use Rattle.vsm_base.specs.declared.places.Access.TheVariants.{Write}
 use Rattle.vsm_base.specs.declared.name.Name.{Name}
 use Rattle.vsm_core.specs.declared.note.Note.{Note}
 use Rattle.vsm_core.specs.declared.operation.Op.{Op}
-use Rattle.vsm_core.specs.Attempt.{left_with, in_access_from, posting, told_on, tells, hit_tells, sends, polled, leaves, by_page_mask, behind_page_mask, reads_input, reads_slice, by_input, by_access, goal_of}
+use Rattle.vsm_core.specs.Attempt.{left_with, in_access_from, posting, told_on, tells, hit_tells, sends, polled, leaves}
+use Rattle.vsm_core.specs.Attempt.{by_page_mask, behind_page_mask, reads_input, reads_slice, by_input, by_access}
+use Rattle.vsm_core.specs.Attempt.{goal_of}
 use Rattle.vsm_core.specs.Controllers.{message_page, vector_words}
 use Rattle.vsm_core.specs.Hypercalls.{has_output, output_address}
 use Rattle.vsm_core.specs.Outcomes.{Origin, Outcome, note_of, plain, register_note}
@@ -21,18 +24,20 @@ use Rattle.attempt.specs.declared.stage.Refusal.{Refusal}
 use Rattle.attempt.specs.declared.stage.Site.{Site}
 use Rattle.attempt.specs.declared.stage.Behind.{Behind}
 use Rattle.attempt.specs.declared.stage.Behind.TheVariants as behinds
-use Rattle.attempt.specs.declared.stage.Gate.{Gate}
 use Rattle.attempt.specs.declared.stage.Inner.{Inner}
 use Rattle.attempt.specs.declared.stage.Inner.TheVariants as inners
 use Rattle.attempt.specs.declared.stage.Matter.{Matter}
 use Rattle.attempt.specs.declared.stage.Matter.TheVariants.{Denial, Hit, Ending}
 use Rattle.attempt.specs.declared.stage.Stage.{Stage}
-use Rattle.attempt.specs.declared.stage.Stage.TheVariants.{Access, Enter, Check, Mask, Look, Rax, Rcx, Header, Slice, Make, Take, Depart, Want, Quit, Send, End}
+use Rattle.attempt.specs.declared.stage.Stage.TheVariants.{Access, Enter, Check, Mask, Look, Rax, Rcx, Header, Slice}
+use Rattle.attempt.specs.declared.stage.Stage.TheVariants.{Make, Take, Depart, Want, Quit, Send, End}
 use Rattle.attempt.specs.declared.under.Under.{Under}
-use Rattle.attempt.specs.Calls.{AskedIs, SendIs, asks_for, header_of, header_words, sends_now}
+use Rattle.attempt.specs.Calls.{AskedIs, SendIs, access_of, asks_for, header_of, header_words, sends_now}
 use Rattle.attempt.specs.Paths.{IsPlaced, is_aligned, path_rest}
 use Rattle.attempt.specs.Plans.{PlanIs, planned}
 use Rattle.attempt.specs.Results.{done_by, granted_of, hit_note, refusal_of, result_of}
+use Rattle.attempt.specs.Sends.{SendsIs, sends_rest}
+use Rattle.attempt.specs.Views.{VpView, origin_of}
 
 -- the planned steps, and then the leave and the end
 abbrev pub made_rest : Origin → Under → Tree Outcome
@@ -82,22 +87,14 @@ behind_rest from u behinds.Input generation = output_masked from u.head.output g
 behind_rest from u behinds.Words generation = words_rest from u
 behind_rest from u behinds.Make generation = made_rest from u
 
--- what comes where a page's mask binds level 0
-abbrev pub gate_rest : Origin → Under → Gate → Tree Outcome
-gate_rest from u gate =
-    behind_page_mask from.state.active from gate.access gate.site.address gate.generation
-    (behind_rest from u gate.behind gate.generation)
-
 -- what comes once the generation is checked
 abbrev pub inner_rest : Origin → Under → Inner → (generation : ℕ) → Tree Outcome
 inner_rest from u (inners.Look page matter) generation = Asks (Reading page.0 0) (by_word from u matter)
 inner_rest from u inners.Make generation = made_rest from u
 inner_rest from u (inners.Restore page) generation = Asks (Reading page.0 rax_index) (by_rax from page.0)
-inner_rest from u inners.Input generation =
-    behind_page_mask from.state.active from Read u.head.site.address generation
-    (behind_rest from u behinds.Input generation)
-inner_rest from u (inners.Output site) generation =
-    behind_page_mask from.state.active from Write site.address generation (behind_rest from u behinds.Make generation)
+inner_rest from u (inners.Page gate) generation =
+    behind_page_mask from.state.active from (access_of gate.behind) gate.site.address generation
+    (behind_rest from u gate.behind generation)
 
 -- the rest of a run of reads, which has found these words so far
 abbrev pub reads_rest : Reads → List ℕ → (List ℕ → Tree Outcome) → Tree Outcome
@@ -113,10 +110,10 @@ abbrev pub stage_rest : Origin → Under → Stage → Tree Outcome
 stage_rest from u Access = then_ (path_rest u.path) (leaves from u.path.aim.gva.0 (granted_of from.state u.op))
 stage_rest from u (Enter inner) = in_access_from (inner_rest from u inner)
 stage_rest from u (Check inner) = Asks Checking (inner_rest from u inner)
-stage_rest from u (Mask gate) =
+stage_rest from u (Mask gate generation) =
     Asks (Masking (gate.site.address / 4096))
-    (by_page_mask from gate.access gate.site.address gate.generation
-    (behind_rest from u gate.behind gate.generation))
+    (by_page_mask from (access_of gate.behind) gate.site.address generation
+    (behind_rest from u gate.behind generation))
 stage_rest from u (Look page matter) = Asks (Reading page.0 0) (by_word from u matter)
 stage_rest from u (Rax page) = Asks (Reading page.0 rax_index) (by_rax from page.0)
 stage_rest from u (Rcx page rax) = Asks (Reading page.0 rcx_index) (by_rcx from rax)
@@ -127,7 +124,7 @@ stage_rest from u Make = made_rest from u
 stage_rest from u (Take count) = takes (drop count vector_words) (take count u.taken) (polled from)
 stage_rest from u (Depart asked) = Asks Leaving (λ _. asks_for from u asked)
 stage_rest from u (Want asked) = asks_for from u asked
-stage_rest from u (Quit sending) = Asks Leaving (λ _. sends_now from sending)
+stage_rest from u (Quit sends) = Asks Leaving (λ _. sends_rest from sends)
 stage_rest from u (Send sending) = sends_now from sending
 stage_rest from u End = Ends (result_of from u)
 
@@ -158,17 +155,16 @@ MatterIs from Denial = may_enter from.state ≡ true
 MatterIs from Hit = may_enter from.state ≡ true
 MatterIs from Ending = Unit {0}
 
-abbrev pub InnerIs : Origin → Under → Inner → Type 0
-InnerIs from u (inners.Look page matter) = MatterIs from matter
-InnerIs from u inners.Make = MakeIs from u
-InnerIs from u (inners.Restore page) = may_return from.state ≡ true
-InnerIs from u inners.Input = IsHead from u
-InnerIs from u (inners.Output site) = MakeIs from u
-
 abbrev pub BehindIs : Origin → Under → Behind → Type 0
 BehindIs from u behinds.Input = IsHead from u
 BehindIs from u behinds.Words = IsHead from u
 BehindIs from u behinds.Make = MakeIs from u
+
+abbrev pub InnerIs : Origin → Under → Inner → Type 0
+InnerIs from u (inners.Look page matter) = MatterIs from matter
+InnerIs from u inners.Make = MakeIs from u
+InnerIs from u (inners.Restore page) = may_return from.state ≡ true
+InnerIs from u (inners.Page gate) = BehindIs from u gate.behind
 
 -- reads of so many words, all in a page
 pub record ReadsIs (r : Reads) (total : ℕ) : Type 0 where
@@ -191,7 +187,7 @@ abbrev pub IsAt : Origin → Under → Stage → Type 0
 IsAt from u Access = IsPlaced u.path
 IsAt from u (Enter inner) = InnerIs from u inner
 IsAt from u (Check inner) = InnerIs from u inner
-IsAt from u (Mask gate) = BehindIs from u gate.behind
+IsAt from u (Mask gate generation) = BehindIs from u gate.behind
 IsAt from u (Look page matter) = MatterIs from matter
 IsAt from u (Rax page) = may_return from.state ≡ true
 IsAt from u (Rcx page rax) = may_return from.state ≡ true
@@ -201,7 +197,7 @@ IsAt from u Make = MakeIs from u
 IsAt from u (Take count) = count < 8
 IsAt from u (Depart asked) = AskedIs from asked
 IsAt from u (Want asked) = AskedIs from asked
-IsAt from u (Quit sending) = SendIs from sending
+IsAt from u (Quit sends) = SendsIs from sends
 IsAt from u (Send sending) = SendIs from sending
 IsAt from u End = DecidedIs from u u.decided
 
@@ -213,3 +209,7 @@ pub record LeadsTo (from : Origin) (old new : Under) (tree : Tree Outcome) : Typ
   pub rest : rest_of from new ≡ tree
   pub is : StageIs from new
   pub op : new.op ≡ old.op
+
+-- the same on a processor of this state, by what its attempts begin with
+abbrev pub Moves : VpView → Under → Under → (Origin → Tree Outcome) → Type 0
+Moves v old new tree = LeadsTo (origin_of v) old new (tree (origin_of v))

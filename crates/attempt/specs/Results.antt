@@ -15,7 +15,9 @@ use Rattle.vsm_core.specs.Contexts.{with_context}
 use Rattle.vsm_core.specs.Controllers.{Controllers, with_taken}
 use Rattle.vsm_core.specs.Fills.{Cached}
 use Rattle.vsm_core.specs.Hypercalls.{with_result}
-use Rattle.vsm_core.specs.Outcomes.{Origin, Outcome, Refusal as Refused, outcome_at, plain, set_outcome, get_outcome, jumped, ack_outcome, eoi_outcome, register_note, hit_outcome, faulted, loaded, passed, spun, note_of, held_outcome, denied_outcome, eom_outcome, fills}
+use Rattle.vsm_core.specs.Outcomes.{Origin, Outcome, Refusal as Refused, outcome_at, plain, set_outcome, get_outcome}
+use Rattle.vsm_core.specs.Outcomes.{jumped, ack_outcome, eoi_outcome, register_note, hit_outcome, faulted, loaded}
+use Rattle.vsm_core.specs.Outcomes.{passed, spun, note_of, held_outcome, denied_outcome, eom_outcome, fills}
 use Rattle.vsm_core.specs.RegisterCalls.{all_emptied, count_of, part_outcome, slice_outcome, start_of}
 use Rattle.vsm_core.specs.Reps.{acting}
 use Rattle.vsm_core.specs.State.{State, gone_to}

@@ -1,24 +1,20 @@
 // What an attempt does to the state of its processor, where it has come to its end.
-ghost use Rattle.std.specs.Prelude.{◌≡◌, ◌<◌, ◌^◌, List, ◌≤◌, [], take, Some};
-ghost use Rattle.rep_frame.specs.Frames.{frame_of};
+ghost use Rattle.std.specs.Prelude.{◌≡◌, ◌<◌, ◌≤◌, ◌^◌, [], List, take};
 ghost use Rattle.synic.specs.Ends.{eom_word};
-ghost use Rattle.vsm_core.specs.Contexts.{with_context};
-ghost use Rattle.vsm_core.specs.Controllers.{with_taken};
 ghost use Rattle.vsm_core.specs.Fills.{Cached};
-ghost use Rattle.vsm_core.specs.Hypercalls.{input_value, with_result};
-ghost use Rattle.vsm_core.specs.Outcomes.{ack_outcome, eoi_outcome, eom_outcome, get_outcome, jumped, set_outcome, Origin};
-ghost use Rattle.vsm_core.specs.RegisterCalls.{count_of, part_outcome, start_of};
-ghost use Rattle.vsm_core.specs.Reps.{with_start as with_start_lem};
-ghost use Rattle.vsm_core.specs.State.{gone_on, gone_to, put_legal as put_legal_lem};
-ghost use Rattle.vsm_core.specs.Switch.{may_call as may_call_lem, may_return as may_return_lem, called, returned};
+ghost use Rattle.attempt.specs.Cited.{ack_outcome, called, count_of, denied_lem, eoi_outcome, eom_outcome, frame_of};
+ghost use Rattle.attempt.specs.Cited.{get_outcome, gone_on, jumped, may_call_lem, may_return_lem};
+ghost use Rattle.attempt.specs.Cited.{part_outcome, put_legal_lem, returned, set_outcome, start_of, with_context};
+ghost use Rattle.attempt.specs.Cited.{with_result, with_start_lem, with_taken, Origin};
 ghost use Rattle.attempt.specs.Comings.{Comes};
 ghost use Rattle.attempt.specs.Paths.{grant_of as grant_of_lem};
 ghost use Rattle.attempt.specs.Rests.{DecidedIs};
-ghost use Rattle.attempt.specs.Results.{denied_or_held, granted_of, hit_or_held, local_outcome, polled_outcome, result_of, switched, reply_outcome, set_outcome_of, again_by};
+ghost use Rattle.attempt.specs.Results.{again_by, denied_or_held, granted_of, hit_or_held, local_outcome};
+ghost use Rattle.attempt.specs.Results.{polled_outcome, refusal_of, reply_outcome, result_of, set_outcome_of, switched};
 ghost use Rattle.attempt.specs.Views.{origin_of};
 
-use crate::begin::{lower, upper};
-use crate::place::Fill;
+use crate::course::{lower, upper};
+use crate::path::Fill;
 use crate::stage::{Decided, Refusal};
 use crate::state::VpState;
 use crate::under::{Under, front_of};
@@ -31,23 +27,16 @@ use vtl_state::word_of;
 use vtl_switch::{call, give_back, interrupt_entry};
 
 /// What was denied, and where its note went.
-fn denial(refusal: &Refusal, posted: Posted) -> Denial
-    ensures { result ≡ record {
-      page = refusal.now.page;
-      mask = refusal.now.mask;
-      generation =
-          refusal.now.generation;
-      access = refusal.now.access;
-      posted = posted;
-    } }
+fn denied(refusal: &Refusal, posted: Posted) -> What
+    ensures { result ≡ denied_lem (refusal_of refusal.now) posted }
 {
-    Denial {
+    What::Denied(Denial {
         page: refusal.page,
         mask: refusal.mask,
         generation: refusal.generation,
         access: refusal.access,
         posted,
-    }
+    })
 }
 
 fn word_of_step(step: EomStep) -> EomWord
@@ -116,11 +105,8 @@ impl VpState {
     {
         let note = self.note_of(refusal);
         match interrupt_entry(&mut self.bank, &mut self.levels, self.limits.pages) {
-            Ok(_) => {
-                let posted = self.controllers.synic.post(slot, note);
-                What::Denied(denial(refusal, posted))
-            }
-            Err(_) => What::Denied(denial(refusal, Posted::Held)),
+            Ok(_) => denied(refusal, self.controllers.synic.post(slot, note)),
+            Err(_) => denied(refusal, Posted::Held),
         }
     }
 
@@ -153,20 +139,13 @@ impl VpState {
         What::Value(value)
     }
 
-    /// The active level's program then stands there.
-    fn go_to(&mut self, rip: u64)
-        ensures { self.new ≡ record self.old { state = gone_to self.old.state rip } }
-    {
-        self.put_legal(Name::Rip, u128::from(rip));
-    }
-
     fn jump_ne(&mut self, name: Name, value: u64, rip: u64)
         ensures { self.new ≡ record self.old { state = jumped self.old.state name value rip } }
     {
         if word_of(&self.bank, &self.levels, name) == value {
             self.go_on();
         } else {
-            self.go_to(rip);
+            self.put_legal(Name::Rip, u128::from(rip));
         }
     }
 
@@ -204,7 +183,7 @@ impl VpState {
             Op::Set(name, value) => self.set(*name, *value),
             Op::Get(name) => self.get(*name),
             Op::Jump(rip) => {
-                self.go_to(*rip);
+                self.put_legal(Name::Rip, u128::from(*rip));
                 What::Plain
             }
             Op::JumpNe(name, value, rip) => {

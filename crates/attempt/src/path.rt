@@ -1,21 +1,96 @@
-// One access under way: the step that comes next, and what is done by its answer.
-ghost use Rattle.std.specs.Prelude.{◌≡◌, ℕ, IfOk, IfErr, OnOk, IsTrue, Option, ◌-◌, ◌+◌, ◌/◌, ◌^◌, ◌<◌, ◌≤◌, List, take};
+// One access under way: what it is for, how far it has come, and what is done by the answer of its next step.
+ghost use Rattle.std.specs.Prelude.{◌≡◌, ◌<◌, ◌≤◌, ℕ, IfErr, OnOk, IsTrue, List};
 ghost use Rattle.page_walk.specs.Half.{Stands};
 ghost use Rattle.page_walk.specs.Told.{Tells, GoesOn, translation_of};
 ghost use Rattle.vsm_base.specs.Masks.{is_mask};
-ghost use Rattle.vsm_core.specs.Access.{start_fault, index_of, data_step as data_step_lem, Decision, at_table, at_page, behind_mask, entry_step, from_check, query_of, by_mask, by_table_mask};
-ghost use Rattle.vsm_core.specs.Fills.{Fill as Filling};
+ghost use Rattle.vsm_core.specs.Access.{start_fault, Decision, at_table, at_page};
+ghost use Rattle.vsm_core.specs.Access.{from_check, query_of, by_mask, by_table_mask};
 ghost use Rattle.vsm_core.specs.Tree.{after, Tree};
 ghost use Rattle.vsm_core.specs.Walk.{Walked, is_paging};
 ghost use Rattle.attempt.specs.Asked.{word_step};
 ghost use Rattle.attempt.specs.Nexts.{IsNext, IsAnswerTo};
-ghost use Rattle.attempt.specs.Paths.{found_by, goal_of, path_rest, reached_rest, IsPlaced, IsReached, place_rest, taken_of, tables_of, IsWalking, Leads};
+ghost use Rattle.attempt.specs.Paths.{found_by, goal_of, path_rest, IsPlaced, IsWalking, Leads, Reaches};
+ghost use Rattle.attempt.specs.Paths.{place_rest, table_rest, taken_of, tables_of};
 
-use crate::place::{Aim, Path, Place, Reached, Walking};
 use crate::stage::{Refusal, Step};
 use page_walk::{Translation, Walk, WalkStep};
-use vsm_base::{Access, Mask, Page, Vtl};
+use vsm_base::{Access, Gva, Mask, Page, Vtl};
 use vsm_core::GuestFault;
+
+/// One access, as an operation of a level asks for it.
+#[derive(Clone, Copy)]
+pub struct Aim {
+    /// The level that makes it. No mask binds level 1.
+    pub level: Vtl,
+    /// The privilege level, 0 to 3 (Intel SDM, Privilege Levels).
+    pub cpl: u8,
+    /// Control register CR0, whose bit 31 turns paging on (Intel SDM, Control Registers).
+    pub cr0: u64,
+    /// Control register CR3, whose bits 51:12 name the page of the first table.
+    pub cr3: u64,
+    /// The address.
+    pub gva: Gva,
+    /// What it does to the word.
+    pub access: Access,
+    /// The bits that the mask of the data page must have at level 0.
+    pub need: u32,
+    /// Whether the address must be a multiple of 8.
+    pub aligned: bool,
+    /// What a write stores.
+    pub value: u64,
+    /// The page count: pages at or above it are unmapped.
+    pub pages: u32,
+}
+
+/// Where an access leads: the address page, where that leads, the mask of that page, where one binds, and the
+/// generation that was checked. It is what a cache keeps of an access that walked.
+#[derive(Clone, Copy)]
+pub struct Fill {
+    pub at: u64,
+    pub to: Translation,
+    pub mask: Option<Mask>,
+    pub generation: u64,
+}
+
+/// The step that comes next.
+#[derive(Clone, Copy)]
+pub enum Place {
+    /// The access is entered.
+    Start,
+    /// The generation is checked.
+    Check,
+    /// The mask of a table's page is loaded.
+    TableMask,
+    /// An entry of a table is read.
+    TableRead,
+    /// The mask of the page to which it leads is loaded.
+    DataMask,
+    /// The word itself is read or written.
+    Data,
+}
+
+/// One access under way: what it is for and how far it has come; its walk, how many entries that has taken, and which,
+/// and the place of the one that it wants; and where it leads. A part is known where the next step needs it.
+#[derive(Clone, Copy)]
+pub struct Path {
+    pub aim: Aim,
+    pub place: Place,
+    pub walk: Walk,
+    pub taken: u8,
+    pub entries: [u64; 4],
+    pub page: Page,
+    pub index: u16,
+    pub fill: Fill,
+}
+
+/// Where an answer has led an access: on, or to its end. A grant has the word's value.
+#[derive(Clone, Copy)]
+pub enum Reached {
+    On,
+    Granted(u64),
+    Denied(Refusal),
+    Fault(GuestFault),
+}
 
 /// Why an access has no first step: `Align` where the address must be a multiple of 8 and isn't; else `Noncanonical`
 /// where paging is on and the address isn't canonical (Intel SDM, Canonical Addressing).
@@ -43,19 +118,11 @@ pub fn mask_of(answer: u64) -> Mask
     mask
 }
 
-fn data_step(aim: &Aim, page: Page, index: u16) -> Step
-    requires { index ≡ index_of aim.now.gva.0 }
-    ensures { (mask : Option ℕ) (generation : ℕ) (fill : Option Filling)
-        → IsNext (data_step_lem aim.now.access (goal_of aim.now) page.0 mask generation fill) (word_step result) }
+/// Whether paging is on (Intel SDM, Control Registers).
+fn paging(cr0: u64) -> bool
+    ensures { result ≡ is_paging cr0 }
 {
-    match aim.access {
-        Access::Read | Access::Execute => Step::Read { page, index },
-        Access::Write => Step::Write {
-            page,
-            index,
-            value: aim.value,
-        },
-    }
+    cr0 / (1 << 31) % 2 == 1
 }
 
 impl Path {
@@ -67,15 +134,22 @@ impl Path {
         match self.place {
             Place::Start => Step::Enter,
             Place::Check => Step::Check,
-            Place::TableMask { page, .. } => Step::Mask { page },
-            Place::TableRead { page, index, .. } => Step::Read { page, index },
+            Place::TableMask => Step::Mask { page: self.page },
+            Place::TableRead => Step::Read {
+                page: self.page,
+                index: self.index,
+            },
             Place::DataMask => Step::Mask {
                 page: Page(self.fill.to.page as u32),
             },
             Place::Data => {
                 let page = Page(self.fill.to.page as u32);
                 let index = (self.aim.gva.0 / 8 % 512) as u16;
-                data_step(&self.aim, page, index)
+                let value = self.aim.value;
+                match self.aim.access {
+                    Access::Read | Access::Execute => Step::Read { page, index },
+                    Access::Write => Step::Write { page, index, value },
+                }
             }
         }
     }
@@ -84,9 +158,7 @@ impl Path {
     pub fn resume(&mut self, answer: u64) -> Reached
         requires is { IsPlaced self.old }
         requires answer { IsAnswerTo (path_rest self.old) answer }
-        ensures rest { reached_rest self.new result ≡ after (path_rest self.old) answer }
-        ensures is { IsReached self.new result }
-        ensures aim { self.new.aim ≡ self.old.aim }
+        ensures { Reaches self.old.aim self.new result (after (path_rest self.old) answer) }
     {
         match self.place {
             Place::Start => {
@@ -94,12 +166,8 @@ impl Path {
                 Reached::On
             }
             Place::Check => self.checked(answer),
-            Place::TableMask {
-                walking,
-                page,
-                index,
-            } => self.table_masked(mask_of(answer), walking, (page, index)),
-            Place::TableRead { walking, .. } => self.entered(walking, answer),
+            Place::TableMask => self.table_masked(mask_of(answer)),
+            Place::TableRead => self.entered(answer),
             Place::DataMask => self.data_masked(mask_of(answer)),
             Place::Data => Reached::Granted(self.found(answer)),
         }
@@ -114,105 +182,67 @@ impl Path {
             Access::Write => self.aim.value,
         }
     }
-}
 
-/// Whether paging is on (Intel SDM, Control Registers).
-pub fn paging(cr0: u64) -> bool
-    ensures { result ≡ is_paging cr0 }
-{
-    cr0 / (1 << 31) % 2 == 1
-}
-
-impl Path {
     /// The generation is known.
-    pub fn checked(&mut self, generation: u64) -> Reached
-        ensures rest { reached_rest self.new result ≡ from_check (goal_of self.old.aim) generation }
-        ensures is { IsReached self.new result }
-        ensures aim { self.new.aim ≡ self.old.aim }
+    fn checked(&mut self, generation: u64) -> Reached
+        ensures { Reaches self.old.aim self.new result (from_check (goal_of self.old.aim) generation) }
     {
+        self.fill.generation = generation;
         if !paging(self.aim.cr0) {
-            let to = Translation {
+            return self.at_data(Translation {
                 page: self.aim.gva.0 / 4096,
                 write: true,
                 user: true,
                 execute: true,
-            };
-            return self.at_data(generation, to);
+            });
         }
         match Walk::start(self.aim.cr3, self.aim.gva, self.aim.access, self.aim.cpl) {
             Ok(walk) => {
                 let (page, index) = walk.first();
-                let walking = Walking {
-                    walk,
-                    taken: 0,
-                    generation,
-                };
-                self.at_walk(walking, WalkStep::Need(page, index))
+                self.walk = walk;
+                self.taken = 0;
+                self.at_walk(WalkStep::Need(page, index))
             }
             Err(fault) => Reached::Fault(fault),
         }
     }
 
     /// The walk wants an entry, is at its end, or fails.
-    pub fn at_walk(&mut self, walking: Walking, step: WalkStep) -> Reached
-        requires goes_on { GoesOn step walking.walk }
-        requires taken { walking.taken ≤ 4 }
-        ensures rest { (now : Walked) (next : List ℕ → Tree Decision)
-            → Tells step now (Stands walking.walk (query_of (goal_of self.old.aim)) (taken_of self.old walking))
-            → (walking.taken < 4 → next ≡ tables_of self.old walking)
-            → reached_rest self.new result ≡ at_table next (goal_of self.old.aim)
-            (taken_of self.old walking) walking.generation now }
-        ensures is { (now : Walked) → Tells step now
-            (Stands walking.walk (query_of (goal_of self.old.aim)) (taken_of self.old walking))
-            → IsReached self.new result }
-        ensures aim { self.new.aim ≡ self.old.aim }
+    fn at_walk(&mut self, step: WalkStep) -> Reached
+        requires goes_on { GoesOn step self.old.walk }
+        requires taken { self.old.taken ≤ 4 }
+        ensures { (now : Walked) (next : List ℕ → Tree Decision)
+            → Tells step now (Stands self.old.walk (query_of (goal_of self.old.aim)) (taken_of self.old))
+            → (self.old.taken < 4 → next ≡ tables_of self.old) → Reaches self.old.aim self.new result
+            (at_table next (goal_of self.old.aim) (taken_of self.old) self.old.fill.generation now) }
     {
         match step {
-            WalkStep::Need(page, index) => {
-                if page >= u64::from(self.aim.pages) {
-                    return Reached::Fault(GuestFault::Unmapped);
-                }
-                self.wants(walking, Page(page as u32), index)
-            }
-            WalkStep::Mapped(to) => self.at_data(walking.generation, to),
+            WalkStep::Need(page, _) if page >= u64::from(self.aim.pages) => Reached::Fault(
+                GuestFault::Unmapped,
+            ),
+            WalkStep::Need(page, index) => self.wants(Page(page as u32), index),
+            WalkStep::Mapped(to) => self.at_data(to),
             WalkStep::Fault(fault) => Reached::Fault(fault),
         }
     }
 
-    /// A walk that wants its next entry has come to the table of it, in a page that is there.
-    fn wants(&mut self, walking: Walking, page: Page, index: u16) -> Reached
-        ensures rest { reached_rest self.new result
-            ≡ behind_mask self.old.aim.level page.0
-            (by_table_mask (tables_of self.old walking) (taken_of self.old walking) walking.generation page.0 index)
-            (entry_step (tables_of self.old walking) (taken_of self.old walking) page.0 index) }
-        ensures is { IsWalking self.old.aim walking self.old.entries → IsReached self.new result }
-        ensures aim { self.new.aim ≡ self.old.aim }
+    /// The walk has come to the table of its next entry, in a page that is there.
+    fn wants(&mut self, page: Page, index: u16) -> Reached
+        ensures { IsWalking self.old → Reaches self.old.aim self.new result (table_rest self.old page.0 index) }
     {
+        self.page = page;
+        self.index = index;
         match self.aim.level {
-            Vtl::Zero => {
-                self.place = Place::TableMask {
-                    walking,
-                    page,
-                    index,
-                };
-                Reached::On
-            }
-            Vtl::One => {
-                self.place = Place::TableRead {
-                    walking,
-                    page,
-                    index,
-                };
-                Reached::On
-            }
+            Vtl::Zero => self.place = Place::TableMask,
+            Vtl::One => self.place = Place::TableRead,
         }
+        Reached::On
     }
 
     /// The data page is known.
-    pub fn at_data(&mut self, generation: u64, to: Translation) -> Reached
-        ensures rest { reached_rest self.new result ≡ at_page (goal_of self.old.aim) (translation_of to) generation }
-        ensures is { IsReached self.new result }
-        ensures aim { self.new.aim ≡ self.old.aim }
+    fn at_data(&mut self, to: Translation) -> Reached
+        ensures { Reaches self.old.aim self.new result
+            (at_page (goal_of self.old.aim) (translation_of to) self.old.fill.generation) }
     {
         if to.page >= u64::from(self.aim.pages) {
             return Reached::Fault(GuestFault::Unmapped);
@@ -220,7 +250,6 @@ impl Path {
         self.fill.at = self.aim.gva.0 / 4096;
         self.fill.to = to;
         self.fill.mask = None;
-        self.fill.generation = generation;
         match self.aim.level {
             Vtl::Zero => self.place = Place::DataMask,
             Vtl::One => self.place = Place::Data,
@@ -229,56 +258,43 @@ impl Path {
     }
 
     /// The mask of a table's page is known.
-    pub fn table_masked(&mut self, mask: Mask, walking: Walking, at: (Page, u16)) -> Reached
-        requires { IsWalking self.old.aim walking self.old.entries }
-        ensures rest { reached_rest self.new result
-            ≡ by_table_mask (tables_of self.old walking)
-            (taken_of self.old walking) walking.generation at.0.0 at.1 mask }
-        ensures is { IsReached self.new result }
-        ensures aim { self.new.aim ≡ self.old.aim }
+    fn table_masked(&mut self, mask: Mask) -> Reached
+        requires { IsWalking self.old }
+        ensures { Reaches self.old.aim self.new result (by_table_mask (tables_of self.old) (taken_of self.old)
+            self.old.fill.generation self.old.page.0 self.old.index mask) }
     {
-        let (page, index) = at;
         if mask.allows(Access::Read) {
-            self.place = Place::TableRead {
-                walking,
-                page,
-                index,
-            };
+            self.place = Place::TableRead;
             return Reached::On;
         }
+        let index = self.index;
         Reached::Denied(Refusal {
-            page,
+            page: self.page,
             mask,
-            generation: walking.generation,
+            generation: self.fill.generation,
             access: Access::Read,
             gva: Some(self.aim.gva.0),
-            gpa: u64::from(page.0) * 4096 + u64::from(index) * 8,
+            gpa: u64::from(self.page.0) * 4096 + u64::from(index) * 8,
             filled: false,
         })
     }
 
     /// An entry of a table is read.
-    pub fn entered(&mut self, walking: Walking, entry: u64) -> Reached
-        requires { IsWalking self.old.aim walking self.old.entries }
-        ensures rest { (page index : ℕ) → reached_rest self.new result
-            ≡ after (place_rest self.old (Place.TableRead walking (record { 0 = page }) index)) entry }
-        ensures is { IsReached self.new result }
-        ensures aim { self.new.aim ≡ self.old.aim }
+    fn entered(&mut self, entry: u64) -> Reached
+        requires { IsWalking self.old }
+        ensures { Reaches self.old.aim self.new result (after (place_rest self.old Place.TableRead) entry) }
     {
-        let mut walking = walking;
-        let step = walking.walk.next(entry);
-        self.entries[walking.taken as usize] = entry;
-        walking.taken += 1;
-        self.at_walk(walking, step)
+        let step = self.walk.next(entry);
+        self.entries[self.taken as usize] = entry;
+        self.taken += 1;
+        self.at_walk(step)
     }
 
     /// The mask of the data page is known.
-    pub fn data_masked(&mut self, mask: Mask) -> Reached
+    fn data_masked(&mut self, mask: Mask) -> Reached
         requires { Leads self.old }
-        ensures rest { reached_rest self.new result
-            ≡ by_mask (goal_of self.old.aim) (translation_of self.old.fill.to) self.old.fill.generation mask }
-        ensures is { IsReached self.new result }
-        ensures aim { self.new.aim ≡ self.old.aim }
+        ensures { Reaches self.old.aim self.new result
+            (by_mask (goal_of self.old.aim) (translation_of self.old.fill.to) self.old.fill.generation mask) }
     {
         self.fill.mask = Some(mask);
         if mask.bits() & self.aim.need == self.aim.need {

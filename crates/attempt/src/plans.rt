@@ -1,13 +1,10 @@
 // The steps of a plan, the notes by which level 1 is told of an intercept, and the plans that post them.
-ghost use Rattle.std.specs.Prelude.{◌≡◌, ◌++◌, ◌+◌, ◌≤◌, ℕ, List, Some, None, take};
-ghost use Rattle.vsm_core.specs.Attempt.{told_on, posting as posting_lem, sending as sending_lem, refused as refused_lem};
-ghost use Rattle.vsm_core.specs.Controllers.{message_page as message_page_lem, message_steps, pending_steps, writes};
-ghost use Rattle.vsm_core.specs.Messages.{flagged as flagged_lem};
-ghost use Rattle.vsm_core.specs.Outcomes.{note_of as note_of_lem};
+ghost use Rattle.std.specs.Prelude.{◌≡◌, ◌+◌, ◌≤◌, ◌++◌, ℕ, List, take};
 ghost use Rattle.vsm_core.specs.declared.operation.Op.{Op};
-ghost use Rattle.vtl_switch.specs.Answers.{number_of};
-ghost use Rattle.attempt.specs.Plans.{planned, IsPopped, PlanIs};
-ghost use Rattle.attempt.specs.Rests.{by_word, posts, rest_of, told_of, with_refusal, DecidedIs, MatterIs, StageIs, LeadsTo};
+ghost use Rattle.attempt.specs.Cited.{flagged_lem, message_page_lem, message_steps, note_of_lem, number_of};
+ghost use Rattle.attempt.specs.Cited.{pending_steps, posting_lem, refused_lem, sending_lem, told_on, writes};
+ghost use Rattle.attempt.specs.Plans.{planned, IsPopped, IsUntold, PlanIs};
+ghost use Rattle.attempt.specs.Rests.{by_word, posts, told_of, with_refusal, DecidedIs, MatterIs, Moves};
 ghost use Rattle.attempt.specs.Results.{done_by, hit_note, outcome_of, refusal_of};
 ghost use Rattle.attempt.specs.Unders.{only_told};
 ghost use Rattle.attempt.specs.Views.{origin_of};
@@ -85,25 +82,19 @@ pub fn put_words(page: Page, at: u16, count: u8) -> Plan
     requires few { count ≤ 16 }
     requires inside { at + count ≤ 512 }
     ensures steps { (number : ℕ) (words : List ℕ) → planned number words result ≡ writes page.0 at (take count words) }
-    ensures told { result.told ≡ None }
-    ensures reason { result.reason ≡ 2 }
-    ensures is { PlanIs result }
+    ensures is { IsUntold result }
 {
     Plan {
         page,
         at,
-        next: 0,
         count,
-        vector: None,
-        told: None,
-        reason: BY_INTERRUPT,
+        ..nothing(None, BY_INTERRUPT)
     }
 }
 
 /// The same steps, and then the assist page is told the reason, where it is on.
 pub fn telling(plan: Plan, told: Option<Page>) -> Plan
-    requires told { plan.told ≡ None }
-    requires is { PlanIs plan }
+    requires { IsUntold plan }
     ensures steps { (number : ℕ) (words : List ℕ)
         → planned number words result ≡ planned number words plan ++ told_on (number_of told) plan.reason }
     ensures is { PlanIs result }
@@ -114,9 +105,7 @@ pub fn telling(plan: Plan, told: Option<Page>) -> Plan
 /// The slot is told that more messages wait.
 fn pending(output: &mut [u64; 16], page: Page, word: u64) -> Plan
     ensures steps { (number : ℕ) → planned number output.new result ≡ pending_steps page.0 word }
-    ensures told { result.told ≡ None }
-    ensures reason { result.reason ≡ 2 }
-    ensures is { PlanIs result }
+    ensures is { IsUntold result }
 {
     output[0] = with_pending(word);
     put_words(page, 0, 1)
@@ -138,19 +127,15 @@ impl VpState {
     fn message(&self, output: &mut [u64; 16], page: Page, words: &[u64; 12]) -> Plan
         ensures steps { planned self.now.number output.new result
             ≡ message_steps self.now.number self.now.state page.0 words.now }
-        ensures told { result.told ≡ None }
-        ensures reason { result.reason ≡ 2 }
-        ensures is { PlanIs result }
+        ensures is { IsUntold result }
     {
         output[..12].copy_from_slice(words);
+        let vector = self.sint0_vector();
         Plan {
             page,
-            at: 0,
-            next: 0,
             count: 12,
-            vector: self.sint0_vector(),
-            told: None,
-            reason: BY_INTERRUPT,
+            vector,
+            ..nothing(None, BY_INTERRUPT)
         }
     }
 
@@ -159,9 +144,7 @@ impl VpState {
         ensures steps { planned self.now.number output.new result
             ≡ posting_lem (origin_of self.now) (message_page_lem self.now.limits.pages self.now.state) note.now
             (Some word) }
-        ensures told { result.told ≡ None }
-        ensures reason { result.reason ≡ 2 }
-        ensures is { PlanIs result }
+        ensures is { IsUntold result }
     {
         let Some(page) = self.message_page() else {
             return nothing(None, BY_INTERRUPT);
@@ -243,9 +226,8 @@ impl VpState {
 
     /// An access was denied.
     pub fn refused(&self, under: &mut Under, refusal: Refusal)
-        ensures { LeadsTo (origin_of self.now) under.old under.new
-            (refused_lem (origin_of self.now) refusal.gva (refusal_of refusal)
-            (done_by (origin_of self.now) (with_refusal under.old refusal))) }
+        ensures { Moves self.now under.old under.new (λ from. refused_lem from refusal.gva (refusal_of refusal)
+            (done_by from (with_refusal under.old refusal))) }
     {
         under.refusal = refusal;
         if !self.may_enter() {
@@ -253,23 +235,19 @@ impl VpState {
             return;
         }
         match self.message_page() {
-            Some(page) => {
-                let matter = Matter::Denial;
-                under.stage = Stage::Look { page, matter };
+            Some(page) => under.stage = Stage::Look(page, Matter::Denial),
+            None => {
+                let plan = nothing(self.assist_page(), BY_INTERRUPT);
+                under.make(plan, Decided::Denied(None));
             }
-            None => under.make(
-                nothing(self.assist_page(), BY_INTERRUPT),
-                Decided::Denied(None),
-            ),
         }
     }
 
     /// The first word of the message slot was read: a note of level 0 is posted.
     fn posted(&self, under: &mut Under, note: &Note, word: u64, decided: Decided)
-        ensures rest { rest_of (origin_of self.now) under.new
-            ≡ posts (origin_of self.now) note.now word (outcome_of (origin_of self.now) under.old decided) }
-        ensures is { DecidedIs (origin_of self.now) under.old decided → StageIs (origin_of self.now) under.new }
-        ensures op { under.new.op ≡ under.old.op }
+        requires { DecidedIs (origin_of self.now) under.old decided }
+        ensures { Moves self.now under.old under.new
+            (λ from. posts from note.now word (outcome_of from under.old decided)) }
     {
         let plan = self.posting(&mut under.output, note, word);
         under.make(telling(plan, self.assist_page()), decided);
@@ -278,8 +256,7 @@ impl VpState {
     /// The first word of the message slot was read.
     pub fn found(&self, under: &mut Under, matter: Matter, word: u64)
         requires { MatterIs (origin_of self.now) matter }
-        ensures { LeadsTo (origin_of self.now) under.old under.new
-            (by_word (origin_of self.now) under.old matter word) }
+        ensures { Moves self.now under.old under.new (λ from. by_word from under.old matter word) }
     {
         match matter {
             Matter::Denial => {

@@ -3,7 +3,7 @@ ghost use Rattle.std.specs.Prelude.{◌≡◌, ◌/◌, ◌<◌, ◌^◌};
 
 use hyper_abi::{Call, Interrupt};
 use rep_frame::Look;
-use vsm_base::{Access, Mask, Page, VpIndex, Vtl};
+use vsm_base::{Access, HvStatus, Mask, Page, VpIndex, Vtl};
 use vsm_core::{GuestFault, PendingWord};
 
 /// What a processor asks of one shared word.
@@ -110,30 +110,28 @@ pub enum Asked {
     /// HvCallStartVirtualProcessor.
     Start,
     /// HvCallModifyVtlProtectionMask, for a slice of so many pages.
-    Modify {
-        length: u8,
-    },
+    Modify(u8),
     /// A flush of all translations.
     Flush,
     /// The configuration of the partition is to have this value.
-    Write {
-        value: u128,
-    },
-    /// A register of the partition, whose value then goes to this place in the page of the output.
-    Look {
-        register: Look,
-        output: Site,
-        at: u16,
-    },
+    Write(u128),
+    /// A register of the partition, whose value then goes to the output.
+    Look(Look, Site),
 }
 
 /// An interrupt that is posted to one processor after the other, in the order of their numbers: to the next one, and
-/// then to each behind it and below `past` that has its bit.
+/// then to each behind it that has its bit.
 #[derive(Clone, Copy)]
 pub struct Sending {
     pub interrupt: Interrupt,
     pub next: u8,
-    pub past: u8,
+}
+
+/// How a call goes on outside of accesses: it posts to a processor next, or has this status.
+#[derive(Clone, Copy)]
+pub enum Sends {
+    Post(Sending),
+    Over(HvStatus),
 }
 
 /// How an attempt was decided. What that does to the state it does at the mark. The words that it needs stand beside
@@ -182,18 +180,16 @@ pub enum Matter {
 #[derive(Clone, Copy)]
 pub enum Inner {
     /// The first word of the message slot is read.
-    Look { page: Page, matter: Matter },
+    Look(Page, Matter),
     /// The planned steps are made, and then the access is left.
     Make,
     /// A return takes RAX and RCX from this page.
-    Restore { page: Page },
-    /// A hypercall reads its input.
-    Input,
-    /// A hypercall writes its output.
-    Output { site: Site },
+    Restore(Page),
+    /// A hypercall touches a page of its input or output.
+    Page(Gate),
 }
 
-/// What comes once a mask has allowed it.
+/// What comes once the mask of a hypercall's page has allowed it.
 #[derive(Clone, Copy)]
 pub enum Behind {
     /// The input's page may be read; the mask of the output's page comes next, where there is one.
@@ -204,14 +200,25 @@ pub enum Behind {
     Make,
 }
 
-/// Where level 0 meets the mask of a hypercall's page: the place, the access, the generation that was checked, and what
-/// comes behind it.
+/// A page that a hypercall touches, and what comes behind its mask at level 0.
 #[derive(Clone, Copy)]
 pub struct Gate {
     pub site: Site,
-    pub access: Access,
-    pub generation: u64,
     pub behind: Behind,
+}
+
+impl Behind {
+    ghost use Rattle.attempt.specs.Calls.{access_of};
+
+    /// The access that the mask must allow.
+    pub fn access(self) -> Access
+        ensures { result ≡ access_of self }
+    {
+        match self {
+            Behind::Input => Access::Read,
+            Behind::Words | Behind::Make => Access::Write,
+        }
+    }
 }
 
 /// How far an attempt has come: each stage is one step that comes next, and what is done by its answer.
@@ -220,33 +227,33 @@ pub enum Stage {
     /// Its access is under way.
     Access,
     /// An access of its own is entered.
-    Enter { inner: Inner },
+    Enter(Inner),
     /// The generation is checked.
-    Check { inner: Inner },
-    /// At level 0 the mask of a hypercall's page is loaded.
-    Mask { gate: Gate },
+    Check(Inner),
+    /// At level 0 the mask of a hypercall's page is loaded; this generation was checked.
+    Mask(Gate, u64),
     /// The first word of the message slot is read.
-    Look { page: Page, matter: Matter },
+    Look(Page, Matter),
     /// A return reads what becomes RAX, and then what becomes RCX.
-    Rax { page: Page },
+    Rax(Page),
     /// A return has read what becomes RAX.
-    Rcx { page: Page, rax: u64 },
+    Rcx(Page, u64),
     /// The next word of a hypercall's header is read.
-    Header { reads: Reads },
+    Header(Reads),
     /// The next word of a hypercall's slice is read.
-    Slice { reads: Reads },
+    Slice(Reads),
     /// The next planned step is made or, where none is left, the access is left.
     Make,
     /// A poll takes the next of its words; it has taken so many.
-    Take { count: u8 },
+    Take(u8),
     /// The access is left, and then this is asked of the partition.
-    Depart { asked: Asked },
+    Depart(Asked),
     /// This is asked of the partition; no step comes next.
-    Want { asked: Asked },
-    /// The access is left, and then an interrupt is posted.
-    Quit { sending: Sending },
+    Want(Asked),
+    /// The access is left, and then an interrupt is posted, where nothing refuses it.
+    Quit(Sends),
     /// An interrupt is posted to the next processor.
-    Send { sending: Sending },
+    Send(Sending),
     /// It was decided; no step comes next.
     End,
 }

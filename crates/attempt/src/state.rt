@@ -1,13 +1,10 @@
 // The state of one processor: before its first attempt, as its attempts begin from it, and as it starts.
 ghost use Rattle.std.specs.Prelude.{◌≡◌, ◌%◌, ◌^◌, IfOk};
 ghost use Rattle.vsm_base.specs.declared.name.Name.{Name};
-ghost use Rattle.vsm_core.specs.Controllers.{message_page as message_page_lem, sint0_vector as sint0_vector_lem};
-ghost use Rattle.vsm_core.specs.Hypercalls.{asked_of};
-ghost use Rattle.vsm_core.specs.Outcomes.{note_of as note_of_lem};
 ghost use Rattle.vsm_core.specs.Registers.{get};
 ghost use Rattle.vsm_core.specs.Starts.{active_at, started_by, with_contexts, with_waiting, with_zero};
-ghost use Rattle.vsm_core.specs.Switch.{may_enter as may_enter_lem, assist_page as assist_page_lem};
-ghost use Rattle.vtl_switch.specs.Answers.{number_of};
+ghost use Rattle.attempt.specs.Cited.{asked_of, assist_page_lem, may_enter_lem, message_page_lem, number_of};
+ghost use Rattle.attempt.specs.Cited.{sint0_vector_lem};
 ghost use Rattle.attempt.specs.Views.{opening_view, origin_of};
 
 use register_file::{Bank, Context};
@@ -50,7 +47,7 @@ impl Model for VpState {
 
 impl VpState {
     /// The low 64 bits of a register of level 1.
-    fn word_of_one(&self, name: Name) -> u64
+    pub fn word_of_one(&self, name: Name) -> u64
         ensures { result ≡ get self.now.state.registers Vtl.One name % 2 ^ 64 }
     {
         (self.bank.get(Vtl::One, name) % (1 << 64)) as u64
@@ -121,15 +118,22 @@ impl VpState {
         })
     }
 
-    /// What a starting processor asks for once it has taken its start word: its contexts.
-    pub fn fetch(&self) -> Request
-        ensures { result ≡ asked_of (origin_of self.now) PartCall.Fetch }
+    /// What the processor asks of the partition by a call.
+    pub fn asks(&self, call: PartCall) -> Request
+        ensures { result ≡ asked_of (origin_of self.now) call }
     {
         Request {
             by: self.number,
             level: self.levels.active(),
-            call: PartCall::Fetch,
+            call,
         }
+    }
+
+    /// What a starting processor asks for once it has taken its start word: its contexts.
+    pub fn fetch(&self) -> Request
+        ensures { result ≡ asked_of (origin_of self.now) PartCall.Fetch }
+    {
+        self.asks(PartCall::Fetch)
     }
 
     /// Level 0's own registers become the context's, unless a register of it has a bit that must be zero.

@@ -1,12 +1,12 @@
 // An attempt that is under way.
-ghost use Rattle.std.specs.Prelude.{◌≡◌, ◌≤◌, take};
+ghost use Rattle.std.specs.Prelude.{◌≡◌, ◌≤◌, ◌∷◌, [], take};
 ghost use Rattle.attempt.specs.Unders.{departing, ended, left, made_by};
 
-use crate::place::{Aim, Fill, Path, Place};
+use crate::path::{Aim, Fill, Path, Place};
 use crate::plans::nothing;
 use crate::stage::{Asked, Decided, Head, Plan, Refusal, Site, Stage};
 use hyper_abi::Call;
-use page_walk::Translation;
+use page_walk::{Translation, Walk};
 use vsm_base::{Access, Gva, Mask, Page, Vtl};
 use vsm_core::Op;
 
@@ -39,8 +39,20 @@ pub fn front_of<const N: usize>(words: &[u64; 32]) -> [u64; N]
     front
 }
 
+/// Two words go to the front of others.
+pub fn put_front<const N: usize>(words: &mut [u64; N], first: u64, second: u64)
+    requires { 2 ≤ N }
+    ensures { take 2 words.new ≡ first ∷ second ∷ [] }
+{
+    words[0] = first;
+    words[1] = second;
+}
+
 /// An access of which nothing is known.
 fn no_path() -> Path {
+    let Ok(walk) = Walk::start(0, Gva(0), Access::Read, 0) else {
+        unreachable!()
+    };
     let aim = Aim {
         level: Vtl::Zero,
         cpl: 0,
@@ -68,7 +80,11 @@ fn no_path() -> Path {
     Path {
         aim,
         place: Place::Start,
+        walk,
+        taken: 0,
         entries: [0; 4],
+        page: Page(0),
+        index: 0,
         fill,
     }
 }
@@ -137,6 +153,6 @@ impl Under {
     pub fn depart(&mut self, asked: Asked)
         ensures { self.new ≡ departing self.old asked }
     {
-        self.stage = Stage::Depart { asked };
+        self.stage = Stage::Depart(asked);
     }
 }

@@ -5,8 +5,8 @@ use Rattle.vsm_core.specs.Attempt.{leaves, polled}
 use Rattle.vsm_core.specs.Controllers.{vector_words}
 use Rattle.vsm_core.specs.Outcomes.{Origin}
 use Rattle.vsm_core.specs.Tree.{Tree, after, takes, then_}
-use Rattle.attempt.specs.declared.place.Aim.{Aim}
-use Rattle.attempt.specs.declared.place.Path.{Path}
+use Rattle.attempt.specs.declared.path.Aim.{Aim}
+use Rattle.attempt.specs.declared.path.Path.{Path}
 use Rattle.attempt.specs.declared.stage.Stage.{Stage}
 use Rattle.attempt.specs.declared.under.Under.{Under}
 use Rattle.attempt.specs.Paths.{path_rest, reached_rest}

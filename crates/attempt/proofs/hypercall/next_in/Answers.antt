@@ -2,7 +2,7 @@ use Rattle.std.proofs.Common.{◌≡◌, ◌∙◌, true, false, rules, arith}
 use Rattle.std.proofs.lemmas.Bool.Decides.{nat_tests}
 use Rattle.vsm_core.specs.Interrupts.{is_in}
 use Rattle.attempt.proofs.Sendings.{those-next, those-skip}
-use Rattle.attempt.proofs.given.next_in.Goals as goal
+use Rattle.attempt.proofs.hypercall.next_in.Goals as goal
 
 pub returns-then-bits-p-eq1-clause-next : goal.returns-then-bits-p-eq1-clause-next
 returns-then-bits-p-eq1-clause-next c =
