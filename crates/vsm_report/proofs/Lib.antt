@@ -1,6 +1,8 @@
 pub mod DigitSteps
+pub mod Endings
 pub mod Example
 pub mod Gathering
+pub mod LastStates
 pub mod MaskTurns
 pub mod Processors
 pub mod Requesting

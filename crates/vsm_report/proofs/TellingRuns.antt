@@ -167,7 +167,7 @@ opened-tell : (s : Script) → AllTell (opened s)
 unfolding opened
 opened-tell s = record { each = λ p v e. subst (Tells []) (opening-at s p v e).is (opening-tells s p); others = λ p e. refl }
 
-closed-tell : (s : Script) → AllTell (closed s)
+pub closed-tell : (s : Script) → AllTell (closed s)
 unfolding closed
 closed-tell s =
     let first = first_partition s in

@@ -1,5 +1,6 @@
 pub mod Acting
 pub mod Counts
+pub mod Endings
 pub mod FlatRun
 pub mod Gathering
 pub mod Journal

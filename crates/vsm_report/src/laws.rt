@@ -5,10 +5,12 @@ ghost use Rattle.guest_script.specs.Within.{IsWithin};
 ghost use Rattle.guest_script.specs.declared.script.Script.{Script};
 ghost use Rattle.vsm_core.specs.Blocks.{IsWhole};
 ghost use Rattle.vsm_core.specs.Journal.{masks};
+ghost use Rattle.vsm_core.specs.Processor.{Vp};
 ghost use Rattle.vsm_core.specs.Served.{AreServed, joined};
 ghost use Rattle.vsm_core.specs.declared.mark.Ending.{Ending};
 ghost use Rattle.vsm_report.specs.Acting.{first_partition};
-ghost use Rattle.vsm_report.specs.FlatRun.{flat, served};
+ghost use Rattle.vsm_report.specs.Endings.{Says, last_state};
+ghost use Rattle.vsm_report.specs.FlatRun.{closed, flat, served};
 ghost use Rattle.vsm_report.specs.Opening.{opening_masks};
 ghost use Rattle.vsm_report.specs.Telling.{kept_marks, told_entries, told_marks};
 ghost use Rattle.vsm_report.specs.Trace.{traced};
@@ -40,4 +42,12 @@ pub fn lines_tell_the_marks()
 /// The lines tell each entry of the journal in its order, and no other.
 pub fn lines_tell_the_journal()
     ensures { (s : Script) → told_entries (flat s).lines ≡ (flat s).journal }
+{}
+
+/// The ending that a report tells of a processor is the one that the processor's last state says, and no other is said of it.
+pub fn endings_tell_the_last_state()
+    ensures says { (s : Script) (p : ℕ) (v : Vp) (ending : Ending) → slice_get (closed s).vps p ≡ Some v
+        → slice_get (flat s).ends p ≡ Some ending → Says (last_state s p v) ending }
+    ensures only { (s : Script) (p : ℕ) (v : Vp) (ending : Ending) → slice_get (closed s).vps p ≡ Some v
+        → Says (last_state s p v) ending → slice_get (flat s).ends p ≡ Some ending }
 {}
