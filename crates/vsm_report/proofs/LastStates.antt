@@ -87,7 +87,7 @@ begun-tested v o h = record {
 }
 
 -- a spin in vain leaves its state, and the marks that stay
-abbrev after_spin : Vp → Option Ending
+abbrev pub after_spin : Vp → Option Ending
 after_spin v = or_else (ran_out (length_of v v.state.active) v.limits.budget (rip_of v.state) (length (standing v))) (spun_out (v.spins + 1))
 
 vain-tested : (v : Vp) (o : Outcome) (ending : Option Ending) → ending ≡ after_spin v → Ready v → Tested (marked_or_ended v o ending)
@@ -109,11 +109,11 @@ came_to-tested (Again grant) v o e vain h =
 came_to-tested Started v o e vain h = begun-tested v o h
 came_to-tested _ v o e vain h = marked-tested v o h
 
-saw-ready : (op : Option Op) (v : Vp) (e : Event) → Ready v → Ready (saw op v e)
+pub saw-ready : (op : Option Op) (v : Vp) (e : Event) → Ready v → Ready (saw op v e)
 saw-ready op v (events.Check generation) h = record { going = h.going; few = h.few; quiet = h.quiet }
 saw-ready op v _ h = record { going = h.going; few = h.few; quiet = h.quiet }
 
-saw-state : (op : Option Op) (v : Vp) (e : Event) → (saw op v e).state ≡ v.state
+pub saw-state : (op : Option Op) (v : Vp) (e : Event) → (saw op v e).state ≡ v.state
 saw-state op v (events.Check generation) = refl
 saw-state op v _ = refl
 
@@ -135,11 +135,11 @@ pub record Stands (s : Script) (p : ℕ) (v : Vp) : Type 0 where
   pub off : v.started ≡ false → Ready v
   pub on : v.started ≡ true → Tested v
 
-or_else-first : (a b : Option Ending) → None ≡ or_else a b → a ≡ None
+pub or_else-first : (a b : Option Ending) → None ≡ or_else a b → a ≡ None
 or_else-first None b e = refl
 or_else-first (Some ending) b e = cc
 
-or_else-second : (a b : Option Ending) → None ≡ or_else a b → b ≡ None
+pub or_else-second : (a b : Option Ending) → None ≡ or_else a b → b ≡ None
 or_else-second None b e = sym e
 or_else-second (Some ending) b e = cc
 
@@ -150,7 +150,7 @@ not-spun false e = refl
 few-spins : (spins : ℕ) → spins ≤ spin_limit → spun_out spins ≡ None → spins < spin_limit
 few-spins spins most e = let g = not-spun (spins == spin_limit) e in grind (arith, nat_tests)
 
-tested-ready : (v : Vp) → v.ended ≡ None → Tested v → Ready v
+pub tested-ready : (v : Vp) → v.ended ≡ None → Tested v → Ready v
 tested-ready v going h =
     let stop = stop_of (last_of (standing v)) in
     let ran = ran_out (length_of v v.state.active) v.limits.budget (rip_of v.state) (length (standing v)) in

@@ -4,6 +4,7 @@ pub mod Example
 pub mod Gathering
 pub mod LastStates
 pub mod MaskTurns
+pub mod MoreTurns
 pub mod Processors
 pub mod Requesting
 pub mod Serving

@@ -143,7 +143,7 @@ saw-ended : (op : Option Op) (v : Vp) (e : Event) → (saw op v e).ended ≡ v.e
 saw-ended op v (events.Check generation) = refl
 saw-ended op v e = refl
 
-saw-standing : (op : Option Op) (v : Vp) (e : Event) → standing (saw op v e) ≡ standing v
+pub saw-standing : (op : Option Op) (v : Vp) (e : Event) → standing (saw op v e) ≡ standing v
 saw-standing op v (events.Check generation) = refl
 saw-standing op v e = refl
 

@@ -5,6 +5,7 @@ pub mod FlatRun
 pub mod Gathering
 pub mod Journal
 pub mod Marks
+pub mod MoreTurns
 pub mod Opening
 pub mod Pieces
 pub mod Schedule
