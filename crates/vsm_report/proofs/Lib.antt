@@ -1,7 +1,10 @@
 pub mod DigitSteps
+pub mod Endings
 pub mod Example
 pub mod Gathering
+pub mod LastStates
 pub mod MaskTurns
+pub mod MoreTurns
 pub mod Processors
 pub mod Requesting
 pub mod Serving

@@ -85,7 +85,7 @@ last_of told m =
 vain_last-of : (told : List Mark) (m : Mark) → vain_last (told ++ m ∷ []) ≡ cond (not (is_left m.what)) (m ∷ []) []
 vain_last-of told m = ap (filter (λ m. not (is_left m.what))) (last_of told m)
 
-all_but_last : (stood : List Mark) (m : Mark) → take (length (stood ++ m ∷ []) - 1) (stood ++ m ∷ []) ≡ stood
+pub all_but_last : (stood : List Mark) (m : Mark) → take (length (stood ++ m ∷ []) - 1) (stood ++ m ∷ []) ≡ stood
 all_but_last stood m =
     let before : length (stood ++ m ∷ []) - 1 ≡ length stood = omega (arith, length-append stood (m ∷ [])) in
     ap (λ n. take n (stood ++ m ∷ [])) before ∙ take-append_seam stood (m ∷ [])
@@ -143,7 +143,7 @@ saw-ended : (op : Option Op) (v : Vp) (e : Event) → (saw op v e).ended ≡ v.e
 saw-ended op v (events.Check generation) = refl
 saw-ended op v e = refl
 
-saw-standing : (op : Option Op) (v : Vp) (e : Event) → standing (saw op v e) ≡ standing v
+pub saw-standing : (op : Option Op) (v : Vp) (e : Event) → standing (saw op v e) ≡ standing v
 saw-standing op v (events.Check generation) = refl
 saw-standing op v e = refl
 

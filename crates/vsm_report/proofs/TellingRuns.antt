@@ -71,12 +71,12 @@ none-behind : (ended : Option Ending) → vain_behind ended [] ≡ []
 none-behind None = refl
 none-behind (Some ending) = refl
 
-unstarted-marks : (told : List Mark) (v : Vp) → Tells told v → v.started ≡ false → v.marks ≡ []
+pub unstarted-marks : (told : List Mark) (v : Vp) → Tells told v → v.started ≡ false → v.marks ≡ []
 unstarted-marks told v h off =
     let none = h.unstarted off in
     h.last ∙ ap (λ ms. standing v ++ vain_behind v.ended ms) none ∙ ap (λ ms. ms ++ vain_behind v.ended []) (h.stood ∙ ap staying none) ∙ none-behind v.ended
 
-drop-nil : {A : Type 0} (n : ℕ) (xs : List A) → xs ≡ [] → drop n xs ≡ []
+pub drop-nil : {A : Type 0} (n : ℕ) (xs : List A) → xs ≡ [] → drop n xs ≡ []
 drop-nil zero xs e = e
 drop-nil (suc n) [] e = refl
 drop-nil (suc n) (x ∷ xs) e = cc
@@ -167,7 +167,7 @@ opened-tell : (s : Script) → AllTell (opened s)
 unfolding opened
 opened-tell s = record { each = λ p v e. subst (Tells []) (opening-at s p v e).is (opening-tells s p); others = λ p e. refl }
 
-closed-tell : (s : Script) → AllTell (closed s)
+pub closed-tell : (s : Script) → AllTell (closed s)
 unfolding closed
 closed-tell s =
     let first = first_partition s in
@@ -187,18 +187,18 @@ same_some : {X : Type 0} {x y : X} → Some x ≡ Some y → x ≡ y
 same_some e = cc
 
 -- the processor at a place of a list of what each has left
-record Found {X : Type 0} (f : Vp → X) (vps : List Vp) (p : ℕ) (x : X) : Type 0 where
-  vp : Vp
-  at : slice_get vps p ≡ Some vp
-  is : f vp ≡ x
+pub record Found {X : Type 0} (f : Vp → X) (vps : List Vp) (p : ℕ) (x : X) : Type 0 where
+  pub vp : Vp
+  pub at : slice_get vps p ≡ Some vp
+  pub is : f vp ≡ x
 
-found-in : {X : Type 0} (f : Vp → X) (vps : List Vp) (p : ℕ) (x : X) → slice_get (map f vps) p ≡ Some x → Found f vps p x
+pub found-in : {X : Type 0} (f : Vp → X) (vps : List Vp) (p : ℕ) (x : X) → slice_get (map f vps) p ≡ Some x → Found f vps p x
 found-in f vps p x e = from (slice_get vps p) refl (sym (slice_get-map f vps p) ∙ e) where
   from : (u : Option Vp) → slice_get vps p ≡ u → option_map f u ≡ Some x → Found f vps p x
   from None at is = cc
   from (Some u) at is = record { vp = u; at = at; is = cc }
 
-none-in : {X : Type 0} (f : Vp → X) (vps : List Vp) (p : ℕ) → slice_get (map f vps) p ≡ None → slice_get vps p ≡ None
+pub none-in : {X : Type 0} (f : Vp → X) (vps : List Vp) (p : ℕ) → slice_get (map f vps) p ≡ None → slice_get vps p ≡ None
 none-in f vps p e = from (slice_get vps p) (sym (slice_get-map f vps p) ∙ e) where
   from : (u : Option Vp) → option_map f u ≡ None → u ≡ None
   from None is = refl

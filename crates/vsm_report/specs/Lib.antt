@@ -1,9 +1,11 @@
 pub mod Acting
 pub mod Counts
+pub mod Endings
 pub mod FlatRun
 pub mod Gathering
 pub mod Journal
 pub mod Marks
+pub mod MoreTurns
 pub mod Opening
 pub mod Pieces
 pub mod Schedule
