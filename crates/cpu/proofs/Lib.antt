@@ -1,12 +1,7 @@
-pub mod Again
 pub mod Ends
+pub mod Leading
 pub mod Lists
-pub mod Marking
 pub mod Openings
-pub mod Replies
-pub mod Seen
 pub mod Settled
-pub mod Spins
-pub mod Tidy
 pub mod Turning
 pub mod Waking

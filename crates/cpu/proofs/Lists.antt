@@ -14,7 +14,8 @@ none-new P xs = rw (drop-length xs) (All-nil P)
 
 -- the list before its last item
 pub all-but-last : {A : Type 0} (xs : List A) (x : A) → take (length (xs ++ x ∷ []) - 1) (xs ++ x ∷ []) ≡ xs
-all-but-last xs x = let e : length (xs ++ x ∷ []) - 1 ≡ length xs = omega (arith, length-append xs (x ∷ [])) in rw e (take-append_seam xs (x ∷ []))
+all-but-last xs x = let e : length (xs ++ x ∷ []) - 1 ≡ length xs = omega (arith, length-append xs (x ∷ [])) in
+    rw e (take-append_seam xs (x ∷ []))
 
 -- and of the one new item
 pub one-new : {A : Type 0} (P : A → Type 0) (xs : List A) (x : A) → P x → All P (drop (length xs) (xs ++ x ∷ []))

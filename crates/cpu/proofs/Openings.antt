@@ -12,7 +12,8 @@ pub rip-opening : rip_of (state_of opening (record { active = Zero; enabled = fa
 unfolding opening_private private_names private_place opening_value all_names
 rip-opening = refl
 
-pub ran_out-none : (length_of_program budget : ℕ) → 1 ≤ budget → ran_out length_of_program budget 0 0 ≡ None → 0 < length_of_program
+pub ran_out-none : (length_of_program budget : ℕ) → 1 ≤ budget → ran_out length_of_program budget 0 0 ≡ None
+    → 0 < length_of_program
 ran_out-none zero budget some e = cc
 ran_out-none (suc n) budget some e = omega arith
 

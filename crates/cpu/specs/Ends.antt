@@ -1,5 +1,5 @@
 -- A spin that found another value.
-use Rattle.std.specs.Prelude.{◌≡◌, ◌≤◌, ◌-◌, ◌≢◌, List, None, length}
+use Rattle.std.specs.Prelude.{◌≡◌, ◌≤◌, ◌-◌, List, None, length}
 use Rattle.vsm_core.specs.declared.mark.Grant.{Grant}
 use Rattle.vsm_core.specs.declared.mark.What.TheVariants.{Again}
 use Rattle.vsm_core.specs.declared.event.Phase.TheVariants.{Idle}
@@ -10,11 +10,11 @@ use Rattle.vsm_core.specs.Tree.{Ends}
 use Rattle.cpu.specs.Turns.{phase_at}
 use Rattle.cpu.specs.UnderWay.{IsUnchecked}
 
--- an attempt of a spin has come to its end in vain: its access is over, has had at most thirteen steps, and begins anew by a check
+-- an attempt of a spin has come to its end in vain: its access is over, has had at most thirteen steps, and begins anew
+-- by a check
 pub record SpinsInVain (v : Vp) (grant : Grant) : Type 0 where
   pub does : List Cached
   pub ends : rest_of v v.op ≡ Ends (outcome_at (origin_of v) (Again grant) v.state does)
-  pub op : v.op ≢ None
   pub anew : IsUnchecked (tree_of (origin_of v) v.op)
   pub tidy : v.part ≡ v.first
   pub few : length v.seen - v.first ≤ 13

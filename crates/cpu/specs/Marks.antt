@@ -1,5 +1,5 @@
 -- The marks that an attempt leaves, and the ending that then holds.
-use Rattle.std.specs.Prelude.{ℕ, ◌+◌, length, Option}
+use Rattle.std.specs.Prelude.{◌≡◌, ℕ, ◌+◌, ◌<◌, length, Option, None}
 use Rattle.vsm_core.specs.declared.mark.Ending.{Ending}
 use Rattle.vsm_core.specs.declared.mark.What.{What}
 use Rattle.vsm_core.specs.Processor.{or_else, ran_out, spun_out, stopped_by}
@@ -11,18 +11,35 @@ use Rattle.cpu.specs.declared.log.Log.{Log}
 use Rattle.cpu.specs.Logs.{marked_in, mark_in}
 use Rattle.cpu.specs.Sound.{length_at}
 
--- the ending after an attempt that is none by itself, in this state, with so many marks that count
-abbrev pub ending_on : Lengths → (budget : ℕ) → State → (marks spins : ℕ) → Option Ending
-ending_on lengths budget state marks spins = or_else (ran_out (length_at lengths state.active) budget (rip_of state) marks) (spun_out spins)
+-- the program goes on, and the budget allows a mark more
+pub record GoesOn (c : Course) : Type 0 where
+  pub rip : c.rip < c.length
+  pub marks : c.marks < c.budget
+
+-- the ending after an attempt that is none by itself
+abbrev pub ending_on : Course → Option Ending
+ending_on c = or_else (ran_out c.length c.budget c.rip c.marks) (spun_out c.spins)
+
+-- where a processor is in this state, with so many marks that count and so many reads of spins in vain
+abbrev pub course_at : Lengths → VpView → (marks spins : ℕ) → Course
+course_at lengths v marks spins = record {
+  length = length_at lengths v.state.active;
+  rip = rip_of v.state;
+  budget = v.limits.budget;
+  marks = marks;
+  spins = spins;
+}
 
 -- the ending after an attempt that came to this
 abbrev pub ending_of : Lengths → VpView → What → Log → Option Ending
-ending_of lengths v what l = or_else (stopped_by what) (ending_on lengths v.limits.budget v.state (length l.marks.0 + 1) l.spins)
+ending_of lengths v what l = or_else (stopped_by what) (ending_on (course_at lengths v (length l.marks.0 + 1) l.spins))
 
 -- a mark that stays, of an attempt that began in the one state and came to this in the other
-abbrev pub log_marked : Lengths → (old new : VpView) → What → Log → Log
-log_marked lengths old new what l = marked_in l (mark_in l old.state.active (rip_of old.state) what) (ending_of lengths new what l)
+abbrev pub log_marked : Lengths → (old : State) → (new : VpView) → What → Log → Log
+log_marked lengths old new what l =
+    marked_in l (mark_in l old.active (rip_of old) what) (ending_of lengths new what l)
 
--- where a processor is after a spin that found another value
-abbrev pub course_on : Lengths → VpView → Log → Course
-course_on lengths v l = record { length = length_at lengths v.state.active; rip = rip_of v.state; budget = v.limits.budget; marks = length l.marks.0; spins = l.spins + 1 }
+-- a log with such a mark: where no ending holds the program goes on
+pub record IsMarked (lengths : Lengths) (old : State) (new : VpView) (what : What) (l after : Log) : Type 0 where
+  pub log : after ≡ log_marked lengths old new what l
+  pub goes : after.ended ≡ None → rip_of new.state < length_at lengths new.state.active

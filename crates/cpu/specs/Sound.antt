@@ -1,16 +1,14 @@
 -- What contracts see of a processor, and what is always so.
-use Rattle.std.specs.Prelude.{◌≡◌, ℕ, ◌+◌, ◌*◌, ◌<◌, ◌≤◌, Bool, true, false, List, Option, None, length}
+use Rattle.std.specs.Prelude.{◌≡◌, ℕ, ◌+◌, ◌<◌, ◌≤◌, true, false, None, length}
 use Rattle.vsm_base.specs.declared.places.Vtl.{Vtl}
 use Rattle.vsm_base.specs.declared.places.Vtl.TheVariants.{Zero, One}
-use Rattle.vsm_core.specs.declared.event.Event.{Event}
-use Rattle.vsm_core.specs.declared.request.Heard.{Heard}
-use Rattle.vsm_core.specs.Processor.{Vp, rest_of, spin_limit}
+use Rattle.vsm_core.specs.Processor.{Vp, rest_of}
 use Rattle.vsm_core.specs.State.{rip_of}
-use Rattle.attempt.specs.declared.under.Under.{Under}
 use Rattle.attempt.specs.Views.{VpView}
 use Rattle.cpu.specs.declared.processor.Cpu.TheInside.{Inside}
 use Rattle.cpu.specs.declared.lengths.Lengths.{Lengths}
-use Rattle.cpu.specs.Logs.{standing_of}
+use Rattle.cpu.specs.declared.log.Log.{Log}
+use Rattle.cpu.specs.Logs.{HasRoom, standing_of}
 use Rattle.cpu.specs.Turns.{IsWaiting}
 use Rattle.cpu.specs.UnderWay.{Means, IsWanting, op_of}
 
@@ -40,10 +38,6 @@ abbrev pub length_at : Lengths → Vtl → ℕ
 length_at lengths Zero = lengths.zero
 length_at lengths One = lengths.one
 
--- once it has started, what is under way is where the events so far, and the reply, have led
-abbrev pub MeansOnce : Bool → Bool → VpView → Under → Option Heard → List Event → ℕ → ℕ → Type 0
-MeansOnce started acting v u heard seen part first = started ≡ true → Means acting v u heard seen part first
-
 -- a processor that waits for the reply to its request
 pub record IsOwing (c : Inside) : Type 0 where
   pub going : c.log.ended ≡ None
@@ -53,31 +47,26 @@ pub record IsOwing (c : Inside) : Type 0 where
   pub wants : c.started ≡ true → IsWanting (rest_of (view_of c) (view_of c).op)
   pub looked : c.started ≡ false → length c.log.seen.0 ≡ 1
 
--- what it was made with, and the room that it has for that
-pub record IsMade (c : Inside) : Type 0 where
-  pub vp : c.state.number < c.state.limits.vps
-  pub vps : c.state.limits.vps ≤ 8
-  pub budget : c.state.limits.budget ≤ 10000
-  pub marks_room : c.log.marks.1 ≡ c.state.limits.budget
-  pub seen_room : c.log.seen.1 ≡ 64 * c.state.limits.budget
+-- what it was made with, and the room for marks that it has for that
+pub record IsMade (v : VpView) (room : ℕ) : Type 0 where
+  pub vp : v.number < v.limits.vps
+  pub vps : v.limits.vps ≤ 8
+  pub budget : room ≡ v.limits.budget
 
--- there is room for what the budget still allows
-pub record HasRoom (c : Inside) : Type 0 where
-  pub marks_few : length c.log.marks.0 ≤ c.state.limits.budget
-  pub notes : c.state.limits.budget ≤ c.state.room + length (standing_of c.log.again c.log.marks.0)
-  pub part_few : c.log.part ≤ 38 * length (standing_of c.log.again c.log.marks.0)
-  pub part_le : c.log.part ≤ c.log.first
-  pub first_few : c.log.first ≤ c.log.part + 13
-  pub first_le : c.log.first ≤ length c.log.seen.0
-  pub seen_few : length c.log.seen.0 ≤ c.log.first + 38
-  pub room : c.log.ended ≡ None → length (standing_of c.log.again c.log.marks.0) < c.state.limits.budget
-  pub spins : c.log.ended ≡ None → c.log.spins < spin_limit
+-- there is room for a note of each mark that the budget still allows
+abbrev pub HasNotes : VpView → Log → Type 0
+HasNotes v l = v.limits.budget ≤ v.room + length (standing_of l.again l.marks.0)
 
+abbrev pub IsRunning : Lengths → VpView → Log → Type 0
+IsRunning lengths v l = l.ended ≡ None → rip_of v.state < length_at lengths v.state.active
+
+-- once it has started, what is under way is where the events so far, and the reply, have led
 pub record IsSound (c : Inside) : Type 0 where
-  pub made : IsMade c
-  pub has : HasRoom c
-  pub running : c.started ≡ true → c.log.ended ≡ None → rip_of c.state.state < length_at c.lengths c.state.state.active
+  pub made : IsMade c.state c.log.marks.1
+  pub has : HasRoom c.log
+  pub notes : HasNotes c.state c.log
+  pub running : c.started ≡ true → IsRunning c.lengths c.state c.log
   pub owing : c.owes ≡ true → IsOwing c
   pub waits : c.started ≡ false → c.acting ≡ false
   pub waiting : c.started ≡ false → IsWaiting (view_of c)
-  pub means : MeansOnce c.started c.acting c.state c.under c.heard c.log.seen.0 c.log.part c.log.first
+  pub means : c.started ≡ true → Means c.acting c.state c.under c.heard c.log

@@ -1,5 +1,6 @@
 -- What one turn of a processor is.
-use Rattle.std.specs.Prelude.{◌≡◌, ◌≤◌, ℕ, ◌==◌, Bool, true, false, if◌then◌else◌, Option, Some, None, IfSome, List, [], drop, length, reverse}
+use Rattle.std.specs.Prelude.{◌≡◌, ◌≢◌, ◌≤◌, ℕ, ◌==◌, Bool, true, false, if◌then◌else◌, Option, Some, None, IfSome}
+use Rattle.std.specs.Prelude.{List, [], drop, length, reverse}
 use Rattle.vsm_core.specs.declared.event.Event.{Event}
 use Rattle.vsm_core.specs.declared.event.Phase.{Phase}
 use Rattle.vsm_core.specs.declared.event.Phase.TheVariants as phases
@@ -44,15 +45,7 @@ answer_at (Ends o) ended = after_mark o.what ended
 answer_at (Asks s k) ended = Moved
 answer_at (Wants q k) ended = Moved
 
--- what a turn came to, without its request, and whether it asks one
-abbrev pub pace_of : CpuTurn → Pace
-pace_of Moved = paces.Moved
-pace_of Idle = paces.Idle
-pace_of Attempt = paces.Attempt
-pace_of Again = paces.Again
-pace_of (turns.Wants q) = paces.Wants
-pace_of (Ended ending) = paces.Ended ending
-
+-- whether a turn came to a request
 abbrev pub asks_by : Pace → Bool
 asks_by paces.Wants = true
 asks_by _ = false
@@ -78,15 +71,19 @@ turn_of (paces.Ended ending) asked = Ended ending
 -- a turn where this is left of the attempt of this operation: its end with no step, its next step and no other, or its
 -- request, which is handed out with no step
 abbrev pub TurnsBy : Tree Outcome → Option Op → Vp → Seat → Vp → Seat → CpuTurn → Type 0
-TurnsBy (Ends o) op old before new after turn = (after ≡ before) × (new ≡ settled (Ends o) old) × (turn ≡ after_mark o.what new.ended)
+TurnsBy (Ends o) op old before new after turn =
+    (after ≡ before) × (new ≡ settled (Ends o) old) × (turn ≡ after_mark o.what new.ended)
 TurnsBy (Asks s k) op old before new after turn =
-    (x : ℕ) × Makes before s x after × (new ≡ settled (k x) (saw op old (made s x))) × (turn ≡ answer_at (k x) new.ended)
+    (x : ℕ) × Makes before s x after × (new ≡ settled (k x) (saw op old (made s x)))
+    × (turn ≡ answer_at (k x) new.ended)
 TurnsBy (Wants q k) op old before new after turn = (after ≡ before) × (new ≡ asking op old) × (turn ≡ turns.Wants q)
 
--- a reply to the request of an attempt where this is left of it: the attempt goes on by the reply, or comes to its end by
+-- a reply to the request of an attempt where this is left of it: the attempt goes on by the reply, or comes to its end
+-- by
 -- it, with no step
 abbrev pub AcceptsBy : Tree Outcome → Reply → Vp → Vp → CpuTurn → Type 0
-AcceptsBy (Wants q k) reply old new turn = (new ≡ settled (k reply) (answered reply old)) × (turn ≡ answer_at (k reply) new.ended)
+AcceptsBy (Wants q k) reply old new turn =
+    (new ≡ settled (k reply) (answered reply old)) × (turn ≡ answer_at (k reply) new.ended)
 AcceptsBy _ reply old new turn = ⊥
 
 -- a processor waits for a reply exactly where its turn handed out a request
@@ -106,7 +103,8 @@ LooksTo false rest e old new turn = (new ≡ settled rest (saw None old e)) × (
 
 -- a turn where this is left of a start: the look at the start word, or else as a turn of an attempt
 abbrev pub WakesBy : Tree Outcome → Vp → Seat → Vp → Seat → CpuTurn → Type 0
-WakesBy (Asks s k) old before new after turn = (x : ℕ) × Makes before s x after × LooksTo (x == 0) (k x) (made s x) old new turn
+WakesBy (Asks s k) old before new after turn =
+    (x : ℕ) × Makes before s x after × LooksTo (x == 0) (k x) (made s x) old new turn
 WakesBy rest old before new after turn = TurnsBy rest None old before new after turn
 
 -- a turn of a processor that hasn't started
@@ -128,6 +126,18 @@ pub record IsWaiting (v : Vp) : Type 0 where
 -- an operation that is kept is the one that was, and the state is as it was
 abbrev pub Keeps : Vp → Vp → Type 0
 Keeps old new = IfSome new.op (λ op. (old.op ≡ Some op) × (new.state ≡ old.state))
+
+-- a processor that has started, has no ending and waits for no reply
+pub record IsGoing (v : Vp) : Type 0 where
+  pub started : v.started ≡ true
+  pub going : v.ended ≡ None
+  pub answered : v.owes ≡ false
+
+-- and is in an attempt, before whose end no mark stands that goes
+pub record IsActing (v : Vp) : Type 0 where
+  pub is : IsGoing v
+  pub fresh : v.again ≡ false
+  pub under : v.op ≢ None
 
 -- the programs that a processor was made with. Where it keeps on with an operation, they have it where it stands
 pub record Fits (program : Program) (v : Vp) : Type 0 where

@@ -1,6 +1,7 @@
 // What a turn came to.
-ghost use Rattle.std.specs.Prelude.{◌≡◌, false, None};
-ghost use Rattle.cpu.specs.Turns.{after_mark, asks_by, pace_of, turn_of};
+ghost use Rattle.std.specs.Prelude.{◌≡◌, false, Option};
+ghost use Rattle.vsm_core.specs.declared.request.Request.{Request};
+ghost use Rattle.cpu.specs.Turns.{after_mark, asks_by, turn_of};
 
 use vsm_core::{Ending, Request, What};
 
@@ -36,7 +37,7 @@ impl Pace {
     /// The turn that came to this and asks nothing.
     pub fn turn(self) -> CpuTurn
         requires { asks_by self ≡ false }
-        ensures { result ≡ turn_of self None }
+        ensures { (asked : Option Request) → result ≡ turn_of self asked }
     {
         match self {
             Pace::Moved => CpuTurn::Moved,
@@ -51,7 +52,8 @@ impl Pace {
 
 /// What a step came to by which an attempt came to this.
 pub fn after_mark(what: &What, ended: Option<Ending>) -> Pace
-    ensures { result ≡ pace_of (after_mark what.now ended) }
+    ensures turn { (asked : Option Request) → turn_of result asked ≡ after_mark what.now ended }
+    ensures quiet { asks_by result ≡ false }
 {
     match ended {
         Some(ending) => Pace::Ended(ending),

@@ -1,6 +1,7 @@
 // Why a processor runs no more.
-ghost use Rattle.std.specs.Prelude.{◌≡◌, None, if◌then◌else◌};
-ghost use Rattle.vsm_core.specs.Processor.{ran_out, spun_out, or_else, stopped_by};
+ghost use Rattle.std.specs.Prelude.{◌≡◌, ◌≢◌, true, None, if◌then◌else◌};
+ghost use Rattle.cpu.specs.Marks.{GoesOn, ending_on};
+ghost use Rattle.vsm_core.specs.Processor.{ran_out, spin_limit, spun_out, or_else, stopped_by};
 
 use vsm_core::{Ending, Posted, What};
 
@@ -20,7 +21,8 @@ pub struct Course {
 
 impl Course {
     fn ran_out(&self) -> Option<Ending>
-        ensures { result ≡ ran_out self.now.length self.now.budget self.now.rip self.now.marks }
+        ensures is { result ≡ ran_out self.now.length self.now.budget self.now.rip self.now.marks }
+        ensures goes { result ≡ None → GoesOn self.now }
     {
         if self.rip >= self.length as u64 {
             Some(Ending::Done)
@@ -33,14 +35,17 @@ impl Course {
 
     /// The ending before the first attempt: none of a processor that has not started.
     pub fn at_opening(&self, started: bool) -> Option<Ending>
-        ensures { result ≡ (if started then ran_out self.now.length self.now.budget self.now.rip self.now.marks else None) }
+        ensures is { result ≡ (if started then ran_out self.now.length self.now.budget self.now.rip self.now.marks else
+            None) }
+        ensures goes { started ≡ true → result ≡ None → GoesOn self.now }
     {
         if started { self.ran_out() } else { None }
     }
 
     #[tactic(auto, unfolding(vsm_core::specs::Processor::spin_limit))]
     fn spun_out(&self) -> Option<Ending>
-        ensures { result ≡ spun_out self.now.spins }
+        ensures is { result ≡ spun_out self.now.spins }
+        ensures goes { result ≡ None → self.now.spins ≢ spin_limit }
     {
         if self.spins == SPIN_LIMIT {
             Some(Ending::Spun)
@@ -51,14 +56,17 @@ impl Course {
 
     /// The ending after an attempt that is none by itself.
     pub fn going_on(&self) -> Option<Ending>
-        ensures { result ≡ or_else (ran_out self.now.length self.now.budget self.now.rip self.now.marks) (spun_out self.now.spins) }
+        ensures is { result ≡ ending_on self.now }
+        ensures spins { result ≡ None → self.now.spins ≢ spin_limit }
+        ensures goes { result ≡ None → GoesOn self.now }
     {
         self.ran_out().or(self.spun_out())
     }
 
     /// The ending that holds after an attempt came to this.
     pub fn after(&self, what: &What) -> Option<Ending>
-        ensures { result ≡ or_else (stopped_by what.now) (or_else (ran_out self.now.length self.now.budget self.now.rip self.now.marks) (spun_out self.now.spins)) }
+        ensures is { result ≡ or_else (stopped_by what.now) (ending_on self.now) }
+        ensures goes { result ≡ None → GoesOn self.now }
     {
         stopped_by(what).or(self.going_on())
     }

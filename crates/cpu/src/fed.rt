@@ -34,7 +34,17 @@ fn next(answers: &[u64], at: &mut usize) -> u64 {
 }
 
 impl Port for Fed {
-    ghost seat = { λ p. record { name = 0; vp = p.vp.0; limits = p.limits; phase = p.phase; last = p.last; steps = p.steps; told = None; known = None } };
+    ghost seat = { λ p. record {
+      name = 0;
+      vp = p.vp.0;
+      limits = p.limits;
+      phase = p.phase;
+      last = p.last;
+      steps =
+          p.steps;
+      told = None;
+      known = None;
+    } };
 
     fn enter(&mut self) {
         self.phase = Phase::Entered;

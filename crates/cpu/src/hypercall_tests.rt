@@ -19,7 +19,8 @@ const ENABLE_VP: u128 = 0xF;
 /// The input value of HvCallModifyVtlProtectionMask for ten pages.
 const MODIFY: u128 = 10 << 32 | 0xC;
 
-/// Those of HvCallFlushVirtualAddressList for five elements, and of HvCallGetVpRegisters and HvCallSetVpRegisters for one.
+/// Those of HvCallFlushVirtualAddressList for five elements, and of HvCallGetVpRegisters and HvCallSetVpRegisters for
+/// one.
 const FLUSH_LIST: u128 = 5 << 32 | 0x3;
 
 const GET_ONE: u128 = 1 << 32 | 0x50;
@@ -229,8 +230,8 @@ fn no_mask_binds_level_1(rt: HostRuntime) -> Result<(), Fail> {
     calls(rt.alloc(), Vtl::One, &puts, &[3, 6, 1], &left)
 }
 
-/// Makes a hypercall of a level by so many attempts, over a port that answers so. Its input begins at word 1 of page 1 and
-/// its output at word 32.
+/// Makes a hypercall of a level by so many attempts, over a port that answers so. Its input begins at word 1 of page 1
+/// and its output at word 32.
 fn asks(
     alloc: Global,
     level: Vtl,

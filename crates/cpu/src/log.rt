@@ -1,13 +1,14 @@
 // The marks and the events of a processor.
-ghost use Rattle.std.specs.Prelude.{◌≡◌, ◌+◌, ◌-◌, ◌^◌, ◌<◌, ◌≤◌, length};
-ghost use Rattle.cpu.specs.Logs.{stood, saw_in, mark_in, marked_in, again_in, spun_in};
+ghost use Rattle.std.specs.Prelude.{◌≡◌, ◌+◌, ◌-◌, ◌^◌, ◌<◌, ◌≤◌, None, Some, false, length};
+ghost use Rattle.cpu.specs.Logs.{HasRoom, MayMark, stood, saw_in, mark_in, marked_in, again_in, spun_in};
+ghost use Rattle.vsm_core.specs.Processor.{spin_limit};
 
 use vsm_base::{Reserved, Vtl};
 use vsm_core::{Ending, Event, Grant, Mark, What};
 
 /// The marks and the events of a processor. The events of the attempt under way begin at `first`; those from `part` to
-/// `first` are of a spin that found another value, whose mark is the last one as long as `again` holds. `ended` says why
-/// the processor runs no more.
+/// `first` are of a spin that found another value, whose mark is the last one as long as `again` holds. `ended` says
+/// why the processor runs no more.
 #[derive(Drop)]
 pub struct Log {
     pub marks: Reserved<Mark>,
@@ -22,7 +23,9 @@ pub struct Log {
 impl Log {
     /// Takes away the mark that doesn't stay.
     pub fn stand(&mut self)
-        ensures { self.new ≡ stood self.old }
+        requires { HasRoom self.old }
+        ensures log { self.new ≡ stood self.old }
+        ensures has { HasRoom self.new }
     {
         if self.again {
             let marks = self.marks.as_slice().len();
@@ -33,10 +36,11 @@ impl Log {
 
     /// Adds an event. At a check the events of the last spin go first.
     pub fn see(&mut self, event: Event)
-        requires part { self.old.part ≤ self.old.first }
-        requires first { self.old.first ≤ length self.old.seen.0 }
-        requires room { length self.old.seen.0 < self.old.seen.1 }
-        ensures { self.new ≡ saw_in self.old event }
+        requires has { HasRoom self.old }
+        requires going { self.old.ended ≡ None }
+        requires few { length self.old.seen.0 < self.old.first + 38 }
+        ensures log { self.new ≡ saw_in self.old event }
+        ensures has { HasRoom self.new }
     {
         if let Event::Check { .. } = event {
             self.seen.remove_range(self.part, self.first);
@@ -45,27 +49,12 @@ impl Log {
         self.seen.push(event);
     }
 
-    fn mark_of(&self, level: Vtl, rip: u64, what: &What) -> Mark
-        requires part { self.now.part ≤ length self.now.seen.0 }
-        requires few { length self.now.seen.0 < 2 ^ 32 }
-        ensures { result ≡ mark_in self.now level rip what.now }
-    {
-        let count = self.seen.as_slice().len() - self.part;
-        Mark {
-            level,
-            rip,
-            what: *what,
-            first: self.part as u32,
-            count: count as u32,
-        }
-    }
-
     /// Leaves a mark that stays, and the ending that then holds.
     pub fn mark(&mut self, level: Vtl, rip: u64, what: What, ended: Option<Ending>)
-        requires part { self.old.part ≤ length self.old.seen.0 }
-        requires few { length self.old.seen.0 < 2 ^ 32 }
-        requires room { length self.old.marks.0 < self.old.marks.1 }
-        ensures { self.new ≡ marked_in self.old (mark_in self.old level rip what) ended }
+        requires may { MayMark self.old }
+        requires room { ended ≡ None → length self.old.marks.0 + 1 < self.old.marks.1 }
+        ensures log { self.new ≡ marked_in self.old (mark_in self.old level rip what) ended }
+        ensures has { HasRoom self.new }
     {
         let seen = self.seen.as_slice().len();
         let mark = Mark {
@@ -82,24 +71,34 @@ impl Log {
     }
 
     /// Leaves the mark of a spin that found another value.
+    #[tactic(auto, unfolding(vsm_core::specs::Processor::spin_limit))]
     pub fn mark_again(&mut self, level: Vtl, rip: u64, grant: Grant)
-        requires part { self.old.part ≤ length self.old.seen.0 }
-        requires few { length self.old.seen.0 < 2 ^ 32 }
-        requires room { length self.old.marks.0 < self.old.marks.1 }
-        requires spins { self.old.spins + 1 < 2 ^ 32 }
-        ensures { self.new ≡ again_in self.old (mark_in self.old level rip (What.Again grant)) }
+        requires may { MayMark self.old }
+        requires few { length self.old.seen.0 ≤ self.old.first + 13 }
+        requires spins { self.old.spins + 1 < spin_limit }
+        ensures log { self.new ≡ again_in self.old (mark_in self.old level rip (What.Again grant)) }
+        ensures has { HasRoom self.new }
     {
-        let mark = self.mark_of(level, rip, &What::Again(grant));
+        let seen = self.seen.as_slice().len();
+        let mark = Mark {
+            level,
+            rip,
+            what: What::Again(grant),
+            first: self.part as u32,
+            count: (seen - self.part) as u32,
+        };
         self.marks.push(mark);
-        self.first = self.seen.as_slice().len();
+        self.first = seen;
         self.again = true;
         self.spins += 1;
     }
 
     /// Takes away the events of a spin that found another value once too often, and leaves the ending that then holds.
+    #[tactic(auto, unfolding(vsm_core::specs::Processor::spin_limit))]
     pub fn end_spin(&mut self, ending: Ending)
-        requires { self.old.spins + 1 < 2 ^ 32 }
-        ensures { self.new ≡ spun_in self.old ending }
+        requires { MayMark self.old }
+        ensures log { self.new ≡ spun_in self.old ending }
+        ensures has { HasRoom self.new }
     {
         self.seen.truncate(self.part);
         self.first = self.part;

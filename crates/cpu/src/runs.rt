@@ -46,7 +46,8 @@ pub enum Opening<'a> {
 pub enum Way<'a> {
     /// To nothing: it answers by these numbers in turn, and then by 0.
     Fed(&'a [u64]),
-    /// To memory whose pages have this mask, whose words are this number, but for the two of page 1 that a return takes.
+    /// To memory whose pages have this mask, whose words are this number, but for the two of page 1 that a return
+    /// takes.
     Memory(Mask, u64, [u64; 2]),
     /// To memory of zeros, and a start is posted.
     Started,
@@ -71,8 +72,8 @@ pub fn leaves(alloc: Global, run: &Run, left: &[Left]) -> Result<(), Fail> {
     over_port(alloc, cpu, &program, run, left)
 }
 
-/// Makes a run of a processor that waits for its start under this budget, over a port that answers so, and fails unless it
-/// leaves all that.
+/// Makes a run of a processor that waits for its start under this budget, over a port that answers so, and fails unless
+/// it leaves all that.
 pub fn starts_under(
     alloc: Global,
     budget: u32,

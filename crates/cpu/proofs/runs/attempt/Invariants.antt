@@ -3,4 +3,9 @@ use Rattle.cpu.specs.Turns.{VpServes, Fits}
 use Rattle.cpu.proofs.runs.attempt.Given as goal
 
 abbrev pub invariant-turns : goal.invariant-turns
-invariant-turns g l = record { fits : Fits l.program l.cpu; serves : VpServes l.cpu (g.P.Port.seat l.port); answered : l.cpu.owes ≡ false }
+invariant-turns g l = record {
+  fits : Fits l.program l.cpu;
+  serves : VpServes l.cpu
+      (g.P.Port.seat l.port);
+  answered : l.cpu.owes ≡ false;
+}

@@ -3,4 +3,9 @@ use Rattle.cpu.specs.Turns.{VpServes, Fits}
 use Rattle.cpu.proofs.runs.attempts.Given as goal
 
 abbrev pub invariant-attempts : goal.invariant-attempts
-invariant-attempts g l = record { fits : Fits l.program l.cpu; serves : VpServes l.cpu (g.P.Port.seat l.port); answered : l.cpu.owes ≡ false }
+invariant-attempts g l = record {
+  fits : Fits l.program l.cpu;
+  serves : VpServes l.cpu
+      (g.P.Port.seat l.port);
+  answered : l.cpu.owes ≡ false;
+}

@@ -10,7 +10,7 @@ returns-then-self-as_slice-clause-woken g c =
     let w = c.self.invariant.waiting off in
     let more : i.log.first < length i.log.seen.0 = rw c.as_slice.ensures at c.if-self-as_slice.true in
     let one : length i.log.seen.0 ≡ 1 = omega (arith, more, w.few) in
-    rw (← c.self.view_is) (woken-asks (view_of i) _ (g.P.Port.seat c.args.port.now) off w one refl)
+    rw (← c.self.view_is) (woken-asks (view_of i) _ _ off w one refl)
 
 pub returns-clause-woken : goal.returns-clause-woken
 returns-clause-woken g c =
@@ -18,4 +18,5 @@ returns-clause-woken g c =
     let w = c.self.invariant.waiting (rw (← c.self.view_is) at c.requires.waits) in
     let done : length i.log.seen.0 ≤ i.log.first = rw c.as_slice.ensures at c.if-self-as_slice.false in
     let none : length i.log.seen.0 ≡ 0 = omega (arith, done, w.first) in
-    rw (← c.self.view_is, c.see.ensures) (woken-looks (view_of i) _ (g.P.Port.seat c.args.port.now) (g.P.Port.seat c.take-bits.new.self) c.take-bits.result w none c.take-bits.ensures c.if-bits-eq0.false refl)
+    rw (← c.self.view_is, c.see.ensures.log)
+    (woken-looks (view_of i) _ _ _ c.take-bits.result w none c.take-bits.ensures c.if-bits-eq0.false refl)
