@@ -14,8 +14,8 @@ abbrev pub made : WordStep → ℕ → Event
 made Entering x = events.Enter
 made Checking x = events.Check x
 made (Masking page) x = events.Mask (record { 0 = page }) x
-made (Reading page index) x = events.Read (record { 0 = page }) index x
-made (Writing page index value) x = events.Write (record { 0 = page }) index value
+made (Reading page index) x = events.Read index (record { 0 = page }) x
+made (Writing page index value) x = events.Write index (record { 0 = page }) value
 made Leaving x = events.Leave
 made (Posting vp word bits) x = events.Post (record { 0 = vp }) word bits
 made (Taking word) x = events.Take word x
@@ -24,7 +24,7 @@ made (Taking word) x = events.Take word x
 abbrev pub learned : Event → ℕ
 learned (events.Check generation) = generation
 learned (events.Mask page mask) = mask
-learned (events.Read page index value) = value
+learned (events.Read index page value) = value
 learned (events.Take word bits) = bits
 learned _ = 0
 

@@ -26,14 +26,14 @@ pub enum Event {
     },
     /// A memory word was loaded.
     Read {
-        page: Page,
         index: u16,
+        page: Page,
         value: u64,
     },
     /// A memory word was written.
     Write {
-        page: Page,
         index: u16,
+        page: Page,
         value: u64,
     },
     /// The processor's busy word became 0.
