@@ -339,7 +339,10 @@ impl VpState {
     {
         match reached {
             Reached::On => under.stage = Stage::Access,
-            Reached::Denied(refusal) => self.refused(under, refusal),
+            Reached::Denied => {
+                let refusal = under.path.refusal;
+                self.refused(under, refusal);
+            }
             Reached::Granted(value) => under.leave(Decided::Granted(value)),
             Reached::Fault(fault) => under.leave(Decided::Fault(fault)),
         }
