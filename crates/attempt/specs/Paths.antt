@@ -16,7 +16,6 @@ use Rattle.attempt.specs.declared.path.Path.{Path}
 use Rattle.attempt.specs.declared.path.Place.{Place}
 use Rattle.attempt.specs.declared.path.Place.TheVariants.{Start, Check, TableMask, TableRead, DataMask, Data}
 use Rattle.attempt.specs.declared.path.Reached.{Reached}
-use Rattle.attempt.specs.declared.stage.Refusal.{Refusal}
 use Rattle.attempt.specs.declared.path.Reached.TheVariants.{On, Granted, Denied, Fault}
 
 -- the access that an aim asks for
@@ -92,13 +91,10 @@ place_rest p Data = reaches (goal_of p.aim) (translation_of p.fill.to) p.fill.ge
 abbrev pub path_rest : Path → Tree Decision
 path_rest p = place_rest p p.place
 
-abbrev denied_by : Path → Refusal → Decision
-denied_by p r = Denies r.page.0 r.mask r.generation r.access r.gpa (filled_by p r.filled)
-
 abbrev pub reached_rest : Path → Reached → Tree Decision
 reached_rest p On = path_rest p
 reached_rest p (Granted value) = Ends (Grants (grant_of p.fill value) (Some (fill_of p.fill)))
-reached_rest p Denied = Ends (denied_by p p.refusal)
+reached_rest p (Denied r) = Ends (Denies r.page.0 r.mask r.generation r.access r.gpa (filled_by p r.filled))
 reached_rest p (Fault fault) = Ends (Faults fault)
 
 -- its walk wants one more entry
@@ -128,7 +124,7 @@ IsPlaced p = PlaceIs p p.place
 abbrev pub IsReached : Path → Reached → Type 0
 IsReached p On = IsPlaced p
 IsReached p (Granted value) = p.fill.to.page < 2 ^ 32
-IsReached p Denied = p.refusal.gva ≡ Some p.aim.gva.0
+IsReached p (Denied r) = r.gva ≡ Some p.aim.gva.0
 IsReached p (Fault fault) = Unit {0}
 
 -- an access for this has come to where this is left of it

@@ -339,10 +339,7 @@ impl VpState {
     {
         match reached {
             Reached::On => under.stage = Stage::Access,
-            Reached::Denied => {
-                let refusal = under.path.refusal;
-                self.refused(under, refusal);
-            }
+            Reached::Denied(refusal) => self.refused(under, refusal),
             Reached::Granted(value) => under.leave(Decided::Granted(value)),
             Reached::Fault(fault) => under.leave(Decided::Fault(fault)),
         }

@@ -70,7 +70,7 @@ pub enum Place {
 }
 
 /// One access under way: what it is for and how far it has come; its walk, how many entries that has taken, and which,
-/// and the place of the one that it wants; where it leads; and what was denied. A part is known where it is needed.
+/// and the place of the one that it wants; and where it leads. A part is known where the next step needs it.
 #[derive(Clone, Copy)]
 pub struct Path {
     pub aim: Aim,
@@ -81,7 +81,6 @@ pub struct Path {
     pub page: Page,
     pub index: u16,
     pub fill: Fill,
-    pub refusal: Refusal,
 }
 
 /// Where an answer has led an access: on, or to its end. A grant has the word's value.
@@ -89,7 +88,7 @@ pub struct Path {
 pub enum Reached {
     On,
     Granted(u64),
-    Denied,
+    Denied(Refusal),
     Fault(GuestFault),
 }
 
@@ -269,7 +268,7 @@ impl Path {
             return Reached::On;
         }
         let index = self.index;
-        self.refusal = Refusal {
+        Reached::Denied(Refusal {
             page: self.page,
             mask,
             generation: self.fill.generation,
@@ -277,8 +276,7 @@ impl Path {
             gva: Some(self.aim.gva.0),
             gpa: u64::from(self.page.0) * 4096 + u64::from(index) * 8,
             filled: false,
-        };
-        Reached::Denied
+        })
     }
 
     /// An entry of a table is read.
@@ -304,7 +302,7 @@ impl Path {
             return Reached::On;
         }
         let page = Page(self.fill.to.page as u32);
-        self.refusal = Refusal {
+        Reached::Denied(Refusal {
             page,
             mask,
             generation: self.fill.generation,
@@ -312,7 +310,6 @@ impl Path {
             gva: Some(self.aim.gva.0),
             gpa: u64::from(page.0) * 4096 + self.aim.gva.0 % 4096,
             filled: true,
-        };
-        Reached::Denied
+        })
     }
 }

@@ -86,7 +86,6 @@ fn no_path() -> Path {
         page: Page(0),
         index: 0,
         fill,
-        refusal: no_refusal(),
     }
 }
 
@@ -104,9 +103,7 @@ fn no_refusal() -> Refusal {
 
 impl Under {
     /// Room for the attempts of a processor, in which none is under way.
-    pub fn idle() -> Under
-        ensures { result.stage ≡ Stage.End }
-    {
+    pub fn idle() -> Under {
         Under {
             op: Op::Poll,
             stage: Stage::End,
