@@ -79,8 +79,7 @@ TurnsBy (Asks s k) op old before new after turn =
 TurnsBy (Wants q k) op old before new after turn = (after ≡ before) × (new ≡ asking op old) × (turn ≡ turns.Wants q)
 
 -- a reply to the request of an attempt where this is left of it: the attempt goes on by the reply, or comes to its end
--- by
--- it, with no step
+-- by it, with no step
 abbrev pub AcceptsBy : Tree Outcome → Reply → Vp → Vp → CpuTurn → Type 0
 AcceptsBy (Wants q k) reply old new turn =
     (new ≡ settled (k reply) (answered reply old)) × (turn ≡ answer_at (k reply) new.ended)

@@ -76,13 +76,8 @@ fn the_oldest_note_is_sent_first_and_says_that_more_wait(rt: HostRuntime) -> Res
 }
 
 #[test]
-fn an_end_of_message_waits_where_the_slot_is_taken(rt: HostRuntime) -> Result<(), Fail> {
+fn an_end_of_message_may_send_nothing(rt: HostRuntime) -> Result<(), Fail> {
     let answers = [ROUND, 1, TAKEN, ROUND, TAKEN, ROUND, 0];
-    let whats = [
-        denied(Posted::Waiting),
-        What::Eom(EomWord::Waiting),
-        What::Eom(EomWord::Slot),
-    ];
     let events = [
         Event::Enter,
         checked(),
@@ -90,7 +85,11 @@ fn an_end_of_message_waits_where_the_slot_is_taken(rt: HostRuntime) -> Result<()
         slot(0, 0x0100_8000_0001),
         Event::Leave,
     ];
-    let left = [Left::Whats(&whats), Left::Events(1, &events)];
+    let left = [
+        Left::What(1, What::Eom(EomWord::Waiting)),
+        Left::Events(1, &events),
+        Left::What(2, What::Eom(EomWord::Slot)),
+    ];
     answered(
         rt.alloc(),
         (&STORES, &[Op::Eom; 3]),
@@ -98,28 +97,30 @@ fn an_end_of_message_waits_where_the_slot_is_taken(rt: HostRuntime) -> Result<()
         &answers,
         3,
         &left,
-    )
-}
-
-#[test]
-fn level_zero_ends_no_message(rt: HostRuntime) -> Result<(), Fail> {
+    )?;
+    // Level 0 ends no message, and the note still waits for level 1.
+    let call = Op::VtlCall;
     let zero = [
         Op::Eoi,
         STORE,
         Op::Eom,
         Op::Set(Name::Rcx, 0),
-        Op::VtlCall,
+        call,
         Op::Eoi,
     ];
     let one = [Op::VtlReturn, Op::Eom, Op::Eom];
-    let puts = [(Vtl::Zero, Name::Rcx, 1)];
     let answers = [ROUND, 1, TAKEN, ROUND, 15, ROUND, ROUND, 0];
     let left = [
-        Left::What(0, denied(Posted::Waiting)),
         Left::What(3, What::Eom(EomWord::Nothing)),
         Left::Many(3, 0),
-        // The note still waits for level 1.
         Left::What(6, What::Eom(EomWord::Slot)),
     ];
-    answered(rt.alloc(), (&zero, &one), &puts, &answers, 7, &left)
+    answered(
+        rt.alloc(),
+        (&zero, &one),
+        &[(Vtl::Zero, Name::Rcx, 1)],
+        &answers,
+        7,
+        &left,
+    )
 }

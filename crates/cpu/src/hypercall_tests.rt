@@ -4,17 +4,17 @@ use crate::runs::{Answer, CONFIG, Opening, Put, Run, Way, leaves};
 use std::alloc::Global;
 use std::test::Fail;
 use vsm_base::{Access, Mask, Name, Page, Vtl};
-use vsm_core::{Denial, Ending, Event, GuestFault, Op, Posted, What};
+use vsm_core::{Denial, Event, Op, Posted, What};
 
 /// A hypercall, and an operation behind it.
 const CALLS: [Op; 2] = [Op::Hypercall, Op::Get(Name::Rax)];
 
-/// The input values of HvCallEnablePartitionVtl in memory and in registers, and of HvCallEnableVpVtl.
+/// The input values of HvCallEnablePartitionVtl, of HvCallEnableVpVtl and of HvCallStartVirtualProcessor.
 const ENABLE_PARTITION: u128 = 0xD;
 
-const ENABLE_PARTITION_FAST: u128 = 0x1_000D;
-
 const ENABLE_VP: u128 = 0xF;
+
+const START: u128 = 0x99;
 
 /// The input value of HvCallModifyVtlProtectionMask for ten pages.
 const MODIFY: u128 = 10 << 32 | 0xC;
@@ -50,71 +50,6 @@ fn calls<'a>(
         turns: 0,
     };
     leaves(alloc, &run, left)
-}
-
-/// Fails unless a hypercall with these in Rcx and Rdx is refused at once, and only RAX and Rip change.
-fn is_refused(alloc: Global, value: u128, address: u128, status: u64) -> Result<(), Fail> {
-    let puts = [
-        (Vtl::Zero, Name::Rcx, value),
-        (Vtl::Zero, Name::Rdx, address),
-        (Vtl::Zero, Name::Rax, 0x77),
-    ];
-    let left = [
-        Left::Last(Answer::Attempt),
-        Left::Whats(&[What::Reply(status)]),
-        Left::Seen(&[]),
-        Left::Register(Vtl::Zero, Name::Rax, u128::from(status)),
-        Left::Register(Vtl::Zero, Name::Rcx, value),
-        Left::Register(Vtl::Zero, Name::Rdx, address),
-        Left::Register(Vtl::Zero, Name::Rip, 1),
-    ];
-    calls(alloc, Vtl::Zero, &puts, &[], &left)
-}
-
-/// Fails unless a fast call for this partition comes to this status.
-fn comes_to(alloc: Global, partition: u128, status: u64) -> Result<(), Fail> {
-    let puts = [
-        (Vtl::Zero, Name::Rcx, ENABLE_PARTITION_FAST),
-        (Vtl::Zero, Name::Rdx, partition),
-        (Vtl::Zero, Name::R8, 1),
-    ];
-    let left = [
-        Left::Last(Answer::Attempt),
-        Left::Whats(&[What::Reply(status)]),
-        Left::Seen(&[]),
-        Left::Register(Vtl::Zero, Name::Rax, u128::from(status)),
-        Left::Register(Vtl::Zero, Name::Rip, 1),
-    ];
-    calls(alloc, Vtl::Zero, &puts, &[], &left)
-}
-
-#[test]
-fn a_call_is_refused_before_its_first_step(rt: HostRuntime) -> Result<(), Fail> {
-    let alloc = rt.alloc();
-    is_refused(alloc, 0x98, 0x1001, 0x02)?;
-    is_refused(alloc, ENABLE_VP | 1 << 16, 0x1001, 0x03)?;
-    is_refused(alloc, ENABLE_VP, 0x1001, 0x04)?;
-    is_refused(alloc, ENABLE_VP, 0x2F18, 0x03)?;
-    is_refused(alloc, ENABLE_VP, 0x2F10, 0x05)
-}
-
-#[test]
-fn a_call_is_made_at_privilege_level_0(rt: HostRuntime) -> Result<(), Fail> {
-    let puts = [(Vtl::Zero, Name::Rcx, 0x99), (Vtl::Zero, Name::Cs, 3 << 96)];
-    let fault = GuestFault::Undefined;
-    let left = [
-        Left::Last(Answer::Ended(Ending::Fault(fault))),
-        Left::Whats(&[What::Fault(fault)]),
-        Left::Seen(&[]),
-        Left::Register(Vtl::Zero, Name::Rax, 0),
-    ];
-    calls(rt.alloc(), Vtl::Zero, &puts, &[], &left)
-}
-
-#[test]
-fn a_fast_call_asks_by_two_registers(rt: HostRuntime) -> Result<(), Fail> {
-    comes_to(rt.alloc(), u128::from(SELF), 0)?;
-    comes_to(rt.alloc(), 5, 0x0D)
 }
 
 #[test]
@@ -197,37 +132,6 @@ fn an_input_that_may_not_be_read_is_denied(rt: HostRuntime) -> Result<(), Fail> 
         Left::Register(Vtl::Zero, Name::Rax, 0),
     ];
     calls(rt.alloc(), Vtl::Zero, &puts, &[3, 0], &left)
-}
-
-#[test]
-fn no_mask_binds_level_1(rt: HostRuntime) -> Result<(), Fail> {
-    let puts = [
-        (Vtl::One, Name::Rcx, ENABLE_PARTITION),
-        (Vtl::One, Name::Rdx, 0x1008),
-    ];
-    let page = Page(1);
-    let generation = 3;
-    let left = [
-        Left::Whats(&[What::Reply(0x0D)]),
-        Left::Seen(&[
-            Event::Enter,
-            Event::Check { generation },
-            Event::Read {
-                page,
-                index: 1,
-                value: 6,
-            },
-            Event::Read {
-                page,
-                index: 2,
-                value: 1,
-            },
-            Event::Leave,
-        ]),
-        Left::Register(Vtl::One, Name::Rax, 0x0D),
-        Left::Register(Vtl::One, Name::Rip, 1),
-    ];
-    calls(rt.alloc(), Vtl::One, &puts, &[3, 6, 1], &left)
 }
 
 /// Makes a hypercall of a level by so many attempts, over a port that answers so. Its input begins at word 1 of page 1
@@ -325,5 +229,8 @@ fn the_partition_flushes_and_has_its_configuration(rt: HostRuntime) -> Result<()
     let input = [3, SELF, 0, PARTITION_CONFIG, 3];
     let (index, value) = (32, config);
     let written = Event::Write { page, index, value };
-    results_in(alloc, Vtl::One, GET_ONE, &input, 1 << 32, 11, 8, &written)
+    results_in(alloc, Vtl::One, GET_ONE, &input, 1 << 32, 11, 8, &written)?;
+    let (index, value) = (30, 0);
+    let last = Event::Read { page, index, value };
+    results_in(alloc, Vtl::One, START, &[3], 0x02, 33, 31, &last)
 }

@@ -89,33 +89,8 @@ fn a_fast_call_posts_at_once(rt: HostRuntime) -> Result<(), Fail> {
         post(2, Vtl::Zero, 3, 1 << 63),
         post(3, Vtl::Zero, 3, 1 << 63),
     ];
-    sends(alloc, Vtl::Zero, 0xFF, 0xF, 0, &all)
-}
-
-#[test]
-fn a_level_that_is_named_is_interrupted(rt: HostRuntime) -> Result<(), Fail> {
-    let alloc = rt.alloc();
-    let own = [post(1, Vtl::One, 1, 1)];
-    let lower = [post(1, Vtl::Zero, 1, 1)];
-    sends(alloc, Vtl::One, 0x40, 2, 0, &own)?;
-    sends(alloc, Vtl::One, 0x11_0000_0040, 2, 0, &own)?;
-    sends(alloc, Vtl::One, 0x10_0000_0040, 2, 0, &lower)?;
-    sends(alloc, Vtl::Zero, 0x10_0000_0040, 2, 0, &lower)
-}
-
-#[test]
-fn a_call_that_names_no_processor_makes_no_step(rt: HostRuntime) -> Result<(), Fail> {
-    sends(rt.alloc(), Vtl::Zero, 0x40, 0, 0, &[])
-}
-
-#[test]
-fn a_refused_call_posts_nothing(rt: HostRuntime) -> Result<(), Fail> {
-    let alloc = rt.alloc();
-    sends(alloc, Vtl::Zero, 0x0F, 1, 0x05, &[])?;
-    sends(alloc, Vtl::Zero, 0x100, 1, 0x05, &[])?;
-    sends(alloc, Vtl::Zero, 0x40, 0x11, 0x05, &[])?;
-    sends(alloc, Vtl::Zero, 0x12_0000_0040, 1, 0x05, &[])?;
-    sends(alloc, Vtl::Zero, 0x11_0000_0040, 1, 0x06, &[])
+    sends(alloc, Vtl::Zero, 0xFF, 0xF, 0, &all)?;
+    sends(alloc, Vtl::Zero, 0x40, 0, 0, &[])
 }
 
 /// The input of a call of level 1 begins at word 1 of page 1.
@@ -169,42 +144,4 @@ fn a_call_in_memory_posts_behind_its_leave(rt: HostRuntime) -> Result<(), Fail> 
     sends_by_memory(alloc, 0x45, 0, 0, &[])?;
     sends_by_memory(alloc, 0x0F, 1, 0x05, &[])?;
     sends_by_memory(alloc, 0x45, 0x10, 0x05, &[])
-}
-
-#[test]
-fn a_call_whose_input_is_denied_posts_nothing(rt: HostRuntime) -> Result<(), Fail> {
-    let mask = Mask::of(0).unwrap_or(Mask::all());
-    let page = Page(1);
-    let generation = 3;
-    let denial = Denial {
-        page,
-        mask,
-        generation,
-        access: Access::Read,
-        posted: Posted::Waiting,
-    };
-    let left = [
-        Left::Whats(&[What::Denied(denial)]),
-        Left::Seen(&[
-            Event::Enter,
-            Event::Check { generation },
-            Event::Mask { page, mask },
-            Event::Leave,
-        ]),
-        Left::Active(Vtl::One),
-        Left::Register(Vtl::Zero, Name::Rip, 0),
-    ];
-    calls(rt.alloc(), Vtl::Zero, SEND, PLACE, &[3, 0], &left)
-}
-
-#[test]
-fn a_start_is_asked_of_the_partition(rt: HostRuntime) -> Result<(), Fail> {
-    let left = [
-        Left::Last(Answer::Attempt),
-        Left::Whats(&[What::Reply(0x02)]),
-        Left::Steps(33),
-        Left::Register(Vtl::One, Name::Rip, 1),
-    ];
-    let words = [0x1F10, 0];
-    calls(rt.alloc(), Vtl::One, 0x99, words, &[3], &left)
 }

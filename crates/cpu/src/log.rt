@@ -35,6 +35,7 @@ impl Log {
     }
 
     /// Adds an event. At a check the events of the last spin go first.
+    #[inline(always)]
     pub fn see(&mut self, event: Event)
         requires has { HasRoom self.old }
         requires going { self.old.ended ≡ None }
@@ -43,13 +44,16 @@ impl Log {
         ensures has { HasRoom self.new }
     {
         if let Event::Check { .. } = event {
-            self.seen.remove_range(self.part, self.first);
-            self.first = self.part;
+            if self.part < self.first {
+                self.seen.remove_range(self.part, self.first);
+                self.first = self.part;
+            }
         }
         self.seen.push(event);
     }
 
     /// Leaves a mark that stays, and the ending that then holds.
+    #[inline(always)]
     pub fn mark(&mut self, level: Vtl, rip: u64, what: What, ended: Option<Ending>)
         requires may { MayMark self.old }
         requires room { ended ≡ None → length self.old.marks.0 + 1 < self.old.marks.1 }

@@ -181,32 +181,6 @@ fn a_walk_that_is_denied_at_its_end_has_27_events(rt: HostRuntime) -> Result<(),
 }
 
 #[test]
-fn a_note_waits_where_the_slot_is_taken(rt: HostRuntime) -> Result<(), Fail> {
-    let events = [
-        Event::Enter,
-        checked(),
-        masked(),
-        looked(TAKEN),
-        slot(0, 0x0100_8000_0001),
-        told(),
-        Event::Leave,
-    ];
-    let left = [
-        Left::Seen(&events),
-        Left::Marks(&[mark(Vtl::Zero, 1, denied(Posted::Waiting), 7)]),
-        Left::Active(Vtl::One),
-    ];
-    answered(
-        rt.alloc(),
-        (&STORES, &[Op::Eom]),
-        &[],
-        &[ROUND, 1, TAKEN],
-        1,
-        &left,
-    )
-}
-
-#[test]
 fn a_note_waits_behind_an_older_one(rt: HostRuntime) -> Result<(), Fail> {
     // The first note waits since the page is off. Then level 1 turns it on and returns.
     let ops = [
@@ -258,30 +232,6 @@ fn a_note_waits_behind_an_older_one(rt: HostRuntime) -> Result<(), Fail> {
 }
 
 #[test]
-fn a_note_waits_where_the_page_is_off(rt: HostRuntime) -> Result<(), Fail> {
-    let left = [
-        Left::Seen(&[Event::Enter, checked(), masked(), told(), Event::Leave]),
-        Left::Whats(&[denied(Posted::Waiting), What::Eom(EomWord::Waiting)]),
-    ];
-    for put in [
-        (Vtl::One, Name::Scontrol, 0),
-        (Vtl::One, Name::Simp, 0),
-        (Vtl::One, Name::Simp, 0x2001),
-    ] {
-        let puts = [put];
-        answered(
-            rt.alloc(),
-            (&STORES, &[Op::Eom]),
-            &puts,
-            &[ROUND, 1],
-            2,
-            &left,
-        )?;
-    }
-    Ok(())
-}
-
-#[test]
 fn no_vector_is_requested_where_sint0_has_none(rt: HostRuntime) -> Result<(), Fail> {
     let left = [
         Left::Marks(&[mark(Vtl::Zero, 1, denied(Posted::Slot), 18)]),
@@ -302,45 +252,41 @@ fn no_vector_is_requested_where_sint0_has_none(rt: HostRuntime) -> Result<(), Fa
     Ok(())
 }
 
+/// Fails unless the store is denied with these registers and answers by these events, and its note waits.
+fn waits(alloc: Global, puts: &[Put], answers: &[u64], events: &[Event]) -> Result<(), Fail> {
+    let left = [
+        Left::Seen(events),
+        Left::Whats(&[denied(Posted::Waiting)]),
+        Left::Active(Vtl::One),
+    ];
+    answered(alloc, (&STORES, &[Op::Eom]), puts, answers, 1, &left)
+}
+
 #[test]
-fn nothing_is_told_where_both_pages_are_off(rt: HostRuntime) -> Result<(), Fail> {
+fn a_note_waits_where_its_slot_is_taken_or_off(rt: HostRuntime) -> Result<(), Fail> {
+    let alloc = rt.alloc();
+    let taken = [
+        Event::Enter,
+        checked(),
+        masked(),
+        looked(TAKEN),
+        slot(0, 0x0100_8000_0001),
+        told(),
+        Event::Leave,
+    ];
+    waits(alloc, &[], &[ROUND, 1, TAKEN], &taken)?;
+    let off = [Event::Enter, checked(), masked(), told(), Event::Leave];
+    for put in [
+        (Vtl::One, Name::Scontrol, 0),
+        (Vtl::One, Name::Simp, 0),
+        (Vtl::One, Name::Simp, 0x2001),
+    ] {
+        waits(alloc, &[put], &[ROUND, 1], &off)?;
+    }
     let puts = [
         (Vtl::One, Name::VpAssistPage, 0),
         (Vtl::One, Name::Scontrol, 0),
     ];
-    let left = [
-        Left::Seen(&[Event::Enter, checked(), masked(), Event::Leave]),
-        Left::Marks(&[mark(Vtl::Zero, 1, denied(Posted::Waiting), 4)]),
-        Left::Active(Vtl::One),
-    ];
-    answered(
-        rt.alloc(),
-        (&STORES, &[Op::Eom]),
-        &puts,
-        &[ROUND, 1],
-        1,
-        &left,
-    )
-}
-
-#[test]
-fn level_one_takes_the_vector_of_its_message(rt: HostRuntime) -> Result<(), Fail> {
-    let run = Run {
-        zero: &STORES,
-        one: &[Op::Poll, Op::Ack(Name::Rbx), Op::Eom, Op::Eoi],
-        opening: Opening::Both(Vtl::Zero, &OPENING, &[]),
-        way: Way::Memory(read_only(), 0, [0, 0]),
-        attempts: 4,
-        turns: 0,
-    };
-    let left = [
-        Left::What(1, What::Plain),
-        Left::What(2, What::Value(0x31)),
-        Left::What(3, What::Eom(EomWord::Nothing)),
-        Left::Word(0, 0x0000_0050_8000_0001),
-        Left::Word(8, 0x328),
-        Left::Word(0x65, 0),
-        Left::Word(513, 2),
-    ];
-    leaves(rt.alloc(), &run, &left)
+    let untold = [Event::Enter, checked(), masked(), Event::Leave];
+    waits(alloc, &puts, &[ROUND, 1], &untold)
 }

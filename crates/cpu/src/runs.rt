@@ -72,26 +72,6 @@ pub fn leaves(alloc: Global, run: &Run, left: &[Left]) -> Result<(), Fail> {
     over_port(alloc, cpu, &program, run, left)
 }
 
-/// Makes a run of a processor that waits for its start under this budget, over a port that answers so, and fails unless
-/// it leaves all that.
-pub fn starts_under(
-    alloc: Global,
-    budget: u32,
-    run: &Run,
-    answers: &[u64],
-    left: &[Left],
-) -> Result<(), Fail>
-    requires some { 1 ≤ budget }
-    requires few { budget ≤ 10000 }
-{
-    let program = programs(alloc, run.zero, run.one)?;
-    let limits = Limits { budget, ..LIMITS };
-    let mut cpu = Cpu::new(alloc, VpIndex(0), &limits, false, &program)?;
-    let mut port = new_fed(alloc, limits, answers)?;
-    let last = made(&mut cpu, &mut port, &program, run);
-    judged(cpu, &[], last, left)
-}
-
 /// A mark of an attempt of level 0 or 1 that stood there, whose events are the first.
 pub fn mark(level: Vtl, rip: u64, what: What, count: u32) -> Mark {
     Mark {

@@ -106,20 +106,6 @@ fn a_call_tells_why_it_enters(rt: HostRuntime) -> Result<(), Fail> {
 }
 
 #[test]
-fn level_one_goes_on_where_it_stood(rt: HostRuntime) -> Result<(), Fail> {
-    let zero = [Op::VtlCall];
-    let one = [Op::Eoi, Op::Jump(2)];
-    let puts = [PAGE_1, (Vtl::One, Name::Rip, 1)];
-    let left = [
-        Left::Last(Answer::Ended(Ending::Done)),
-        Left::Word(512, 7),
-        Left::Word(513, 1),
-        Left::Word(514, 7),
-    ];
-    switches(rt.alloc(), (&zero, &one), Vtl::Zero, &puts, 2, &left)
-}
-
-#[test]
 fn a_return_takes_rax_and_rcx(rt: HostRuntime) -> Result<(), Fail> {
     let puts = [PAGE_1, (Vtl::Zero, Name::Rip, 1), (Vtl::Zero, Name::Rax, 5)];
     let page = Page(1);
@@ -152,34 +138,6 @@ fn a_return_takes_rax_and_rcx(rt: HostRuntime) -> Result<(), Fail> {
 }
 
 #[test]
-fn a_fast_return_takes_nothing(rt: HostRuntime) -> Result<(), Fail> {
-    let puts = [PAGE_1, (Vtl::One, Name::Rcx, 1)];
-    let left = [
-        Left::Last(Answer::Attempt),
-        Left::Seen(&[]),
-        Left::Active(Vtl::Zero),
-        Left::Register(Vtl::Zero, Name::Rax, 0),
-        Left::Register(Vtl::Zero, Name::Rcx, 1),
-    ];
-    returns(rt.alloc(), &[Op::Eoi], &puts, &left)
-}
-
-#[test]
-fn no_step_is_made_without_the_page(rt: HostRuntime) -> Result<(), Fail> {
-    for assist in [0, 0x1000, 0x2001] {
-        makes_no_step(rt.alloc(), assist)?;
-    }
-    Ok(())
-}
-
-#[test]
-fn a_call_may_lead_to_the_end(rt: HostRuntime) -> Result<(), Fail> {
-    let zero = [Op::VtlCall; 2];
-    let left = [Left::Last(Answer::Ended(Ending::Done))];
-    switches(rt.alloc(), (&zero, &[]), Vtl::Zero, &[], 1, &left)
-}
-
-#[test]
 fn a_switch_that_is_not_lawful_is_undefined(rt: HostRuntime) -> Result<(), Fail> {
     let user = 3 << 96;
     for (op, put) in [
@@ -196,18 +154,27 @@ fn a_switch_that_is_not_lawful_is_undefined(rt: HostRuntime) -> Result<(), Fail>
 }
 
 #[test]
-fn a_call_needs_level_one(rt: HostRuntime) -> Result<(), Fail> {
-    let run = Run {
-        zero: &[Op::VtlCall],
-        one: &[Op::Jump(0)],
-        opening: Opening::Alone,
-        way: Way::Memory(Mask::all(), 7, [7, 7]),
-        attempts: 1,
-        turns: 0,
-    };
+fn no_step_is_made_without_the_page_or_words_to_take(rt: HostRuntime) -> Result<(), Fail> {
+    for assist in [0, 0x1000, 0x2001] {
+        makes_no_step(rt.alloc(), assist)?;
+    }
+    let fast = [PAGE_1, (Vtl::One, Name::Rcx, 1)];
     let left = [
-        Left::Last(Answer::Ended(Ending::Fault(UNDEFINED))),
-        Left::Enabled(false),
+        Left::Last(Answer::Attempt),
+        Left::Seen(&[]),
+        Left::Active(Vtl::Zero),
+        Left::Register(Vtl::Zero, Name::Rax, 0),
+        Left::Register(Vtl::Zero, Name::Rcx, 1),
     ];
-    leaves(rt.alloc(), &run, &left)
+    returns(rt.alloc(), &[Op::Eoi], &fast, &left)?;
+    // A call to a level without operations.
+    let left = [Left::Last(Answer::Ended(Ending::Done)), Left::Seen(&[])];
+    switches(
+        rt.alloc(),
+        (&[Op::VtlCall; 2], &[]),
+        Vtl::Zero,
+        &[],
+        1,
+        &left,
+    )
 }

@@ -3,8 +3,8 @@ use crate::left::Left;
 use crate::runs::{Answer, Opening, Run, Way, leaves, mark};
 use std::alloc::Global;
 use std::test::Fail;
-use vsm_base::{Access, Gva, Mask, Name, Page, Vtl};
-use vsm_core::{Denial, Ending, Grant, GuestFault, Op, Operand, Posted, What};
+use vsm_base::{Gva, Mask, Name, Page, Vtl};
+use vsm_core::{Ending, Grant, GuestFault, Op, Operand, What};
 
 /// A spin at the first word, and an operation behind it.
 const SPIN: [Op; 2] = [Op::Spin(Gva(0), 7), Op::Get(Name::Rax)];
@@ -16,8 +16,6 @@ const SPIN_ANSWERS: [u64; 9] = [0, 15, 5, 0, 15, 6, 0, 15, 7];
 const VAIN: [Op; 2] = [Op::Set(Name::Rbx, 1), Op::Spin(Gva(0), 7)];
 
 const VAIN_ANSWERS: [u64; 9] = [0, 15, 5, 0, 15, 5, 0, 15, 5];
-
-const UNDEFINED: Ending = Ending::Fault(GuestFault::Undefined);
 
 fn grant(value: u64) -> Grant {
     Grant {
@@ -98,12 +96,6 @@ fn spins_on(alloc: Global, attempts: usize, left: &[Left]) -> Result<(), Fail> {
     leaves(alloc, &run, left)
 }
 
-/// Fails unless eleven attempts at an operation leave so many marks and end so.
-fn comes_to(alloc: Global, op: Op, count: usize, ended: Ending) -> Result<(), Fail> {
-    let left = [Left::Count(count), Left::Ended(Some(ended))];
-    over(alloc, &[op], Mask::all(), 0, 11, &left)
-}
-
 #[test]
 fn operations_do_what_they_say(rt: HostRuntime) -> Result<(), Fail> {
     let ops = [
@@ -144,51 +136,13 @@ fn operations_do_what_they_say(rt: HostRuntime) -> Result<(), Fail> {
 }
 
 #[test]
-fn a_denied_store_writes_nothing(rt: HostRuntime) -> Result<(), Fail> {
-    let mask = Mask::of(1).unwrap_or(Mask::all());
-    let ops = [Op::Store(Gva(0), Operand::Number(7))];
-    let denial = Denial {
-        page: Page(0),
-        mask,
-        generation: 0,
-        access: Access::Write,
-        posted: Posted::Held,
-    };
+fn an_operation_that_no_script_has_is_undefined(rt: HostRuntime) -> Result<(), Fail> {
     let left = [
-        Left::Whats(&[What::Denied(denial)]),
-        Left::Span(0, 0, 4),
-        Left::Ended(Some(Ending::Held)),
-        Left::Register(Vtl::Zero, Name::Rip, 0),
-        Left::Word(0, 5),
+        Left::Count(1),
+        Left::Seen(&[]),
+        Left::Ended(Some(Ending::Fault(GuestFault::Undefined))),
     ];
-    over(rt.alloc(), &ops, mask, 5, 2, &left)
-}
-
-#[test]
-fn a_fault_and_the_budget_end_it(rt: HostRuntime) -> Result<(), Fail> {
-    for (op, count, ended) in [
-        (Op::Jump(0), 10, Ending::Budget),
-        (Op::Jump(1), 1, Ending::Done),
-        (
-            Op::Load(Name::Rax, Gva(4)),
-            1,
-            Ending::Fault(GuestFault::Align),
-        ),
-        (
-            Op::Load(Name::Rax, Gva(0x2000)),
-            1,
-            Ending::Fault(GuestFault::Unmapped),
-        ),
-        (
-            Op::Set(Name::Cr3, 1 << 64),
-            1,
-            Ending::Fault(GuestFault::Gp),
-        ),
-        (Op::Invlpg(Gva(0)), 1, UNDEFINED),
-    ] {
-        comes_to(rt.alloc(), op, count, ended)?;
-    }
-    Ok(())
+    over(rt.alloc(), &[Op::Invlpg(Gva(0))], Mask::all(), 0, 2, &left)
 }
 
 #[test]
