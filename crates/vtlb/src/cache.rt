@@ -60,8 +60,8 @@ impl Cache {
         answer_of(slot, page, generation)
     }
 
-    /// Keeps where an address page leads at a level, with the generation that was checked before the walk and the mask of
-    /// the page that it leads to (none for level 1). It takes the place of what was kept there.
+    /// Keeps where an address page leads at a level, with the generation that was checked before the walk and the mask
+    /// of the page that it leads to (none for level 1). It takes the place of what was kept there.
     pub fn fill(
         &mut self,
         level: Vtl,
@@ -70,7 +70,9 @@ impl Cache {
         to: Translation,
         mask: Option<Mask>,
     )
-        ensures { self.new ≡ Filled level (record { at = page; to = translation_of to; mask = mask; generation = generation }) ∷ self.old }
+        ensures { self.new
+            ≡ Filled level (record { at = page; to = translation_of to; mask = mask; generation = generation })
+            ∷ self.old }
     {
         let slot = slot_of(page, generation, &to, &mask);
         let done = slot_of(page, generation, &to, &mask);
@@ -101,7 +103,8 @@ impl Cache {
 
 // A translation as a place holds it.
 fn slot_of(page: u64, generation: u64, to: &Translation, mask: &Option<Mask>) -> Slot
-    ensures { fill_of result ≡ record { at = page; to = translation_of to.now; mask = mask.now; generation = generation } }
+    ensures { fill_of result
+        ≡ record { at = page; to = translation_of to.now; mask = mask.now; generation = generation } }
 {
     Slot {
         at: page,
