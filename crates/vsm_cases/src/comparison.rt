@@ -32,10 +32,8 @@ pub fn agrees(rule: Rule, expected: &[u8], came: &[u8]) -> bool
 {
     match rule {
         Rule::Whole => came == expected,
-        Rule::Begins => expected.len() <= came.len() && &came[..expected.len()] == expected,
-        Rule::Ends => {
-            expected.len() <= came.len() && came.split_at(came.len() - expected.len()).1 == expected
-        }
+        Rule::Begins => came.starts_with(expected),
+        Rule::Ends => came.ends_with(expected),
     }
 }
 

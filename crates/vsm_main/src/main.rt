@@ -19,27 +19,7 @@ pub use vsm_serve::{Status, serve_plain, vsm};
 #[cfg(test)]
 mod cases;
 #[cfg(test)]
-mod change_cases;
-#[cfg(test)]
-mod hypercall_cases;
-#[cfg(test)]
-mod intercept_cases;
-#[cfg(test)]
-mod interrupt_cases;
-#[cfg(test)]
 mod interrupted_sets;
-#[cfg(test)]
-mod malformed_calls;
-#[cfg(test)]
-mod name_cases;
-#[cfg(test)]
-mod protection_cases;
-#[cfg(test)]
-mod protection_refusals;
-#[cfg(test)]
-mod register_cases;
-#[cfg(test)]
-mod start_cases;
 #[cfg(test)]
 mod tests;
 
