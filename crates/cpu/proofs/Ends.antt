@@ -1,37 +1,28 @@
 -- What the end of an attempt can be: never a start, and a spin's that found another value in one way alone.
-use Rattle.std.proofs.Common.{◌≡◌, ◌≢◌, ℕ, ◌==◌, ◌&&◌, Bool, true, false, cond, Option, Some, None, List, [], ◌∷◌}
+use Rattle.std.proofs.Common.{◌≡◌, ◌≢◌, ℕ, ◌==◌, Bool, true, false, cond, Option, Some, None, List, [], ◌∷◌}
 use Rattle.std.proofs.Common.{refl, ap, take, drop}
 use Rattle.vsm_base.specs.declared.places.Access.TheVariants.{Read}
-use Rattle.vsm_core.specs.declared.mark.EomWord.TheVariants as eoms
 use Rattle.vsm_core.specs.declared.mark.Grant.{Grant}
 use Rattle.vsm_core.specs.declared.mark.GuestFault.{GuestFault}
-use Rattle.vsm_core.specs.declared.mark.GuestFault.TheVariants.{Gp, Undefined}
-use Rattle.vsm_core.specs.declared.mark.Posted.TheVariants.{Held}
 use Rattle.vsm_core.specs.declared.mark.What.{What}
 use Rattle.vsm_core.specs.declared.mark.What.TheVariants as whats
 use Rattle.vsm_core.specs.declared.operation.Op.{Op}
 use Rattle.vsm_core.specs.declared.operation.Op.TheVariants.{Set, Get, Spin}
 use Rattle.vsm_core.specs.declared.request.Heard.{Heard}
 use Rattle.vsm_core.specs.Access.{Goal, start_fault}
-use Rattle.vsm_core.specs.Attempt.{attempt, begun, goal_of, is_wanted, wanted_outcome, unwanted_outcome}
-use Rattle.vsm_core.specs.Controllers.{eom_by, waiting_then, with_taken}
+use Rattle.vsm_core.specs.Attempt.{attempt, begun, goal_of}
 use Rattle.vsm_core.specs.Fills.{Cached}
-use Rattle.vsm_core.specs.Outcomes.{Origin, Outcome, outcome_at, faulted, plain, spun, empties, fills, note_of}
-use Rattle.vsm_core.specs.Outcomes.{denied_outcome, held_outcome, hit_outcome, eom_outcome}
+use Rattle.vsm_core.specs.Outcomes.{Origin, Outcome, outcome_at, faulted, spun, fills}
 use Rattle.vsm_core.specs.Processor.{Vp, came_to, marked}
-use Rattle.vsm_core.specs.RegisterCalls.{count_of, slice_outcome, start_of}
-use Rattle.vsm_core.specs.Registers.{is_legal}
+use Rattle.vsm_core.specs.RegisterCalls.{slice_outcome}
 use Rattle.vsm_core.specs.Reps.{RepEnd, Refused, GoesOn, Complete}
-use Rattle.vsm_core.specs.State.{State, gone_on, may_name, get, put}
-use Rattle.vsm_core.specs.Switch.{may_call, may_return, may_enter, called, returned, is_zero}
+use Rattle.vsm_core.specs.State.{State, gone_on}
 use Rattle.vsm_core.specs.Tree.{Ends, followed, follow}
-use Rattle.rep_frame.specs.Frames.{frame_of}
-use Rattle.rep_frame.specs.Slices.{end_of, setting_refusals}
 use Rattle.attempt.specs.declared.stage.Decided.{Decided}
 use Rattle.attempt.specs.declared.stage.Decided.TheVariants as by
 use Rattle.attempt.specs.declared.under.Under.{Under}
 use Rattle.attempt.specs.Paths.{fill_of, grant_of}
-use Rattle.attempt.specs.Results.{access_outcome, again_by, done_by, hit_note, outcome_of, refusal_of, result_of}
+use Rattle.attempt.specs.Results.{access_outcome, again_by, outcome_of, result_of}
 use Rattle.cpu.specs.UnderWay.{IsUnchecked}
 
 abbrev IsPlain : What → Type 0
@@ -58,46 +49,20 @@ slice-stays from state does (Refused status done) = record { is = tt }
 slice-stays from state does (GoesOn next) = record { is = tt }
 slice-stays from state does (Complete done) = record { is = tt }
 
-eom-stays : (from : Origin) (slot : Option ℕ) → Stays (eom_outcome from slot).what
-eom-stays from slot =
-    either (is_zero from.state.active) (outcome_at from (whats.Eom eoms.Nothing) (gone_on from.state) []) (record {
-      what = whats.Eom (eom_by slot from.controllers.waiting);
-      state = gone_on from.state;
-      controllers = record from.controllers { waiting = waiting_then slot from.controllers.waiting };
-      does = [];
-    }) tt tt
-
 outcome-stays : (from : Origin) (u : Under) (decided : Decided) (op : Op) → again_by u op decided ≡ None
     → Stays (outcome_of from (record u { op = op }) decided).what
 outcome-stays from u (by.Granted value) (Spin gva wanted) e =
     let grant = grant_of u.path.fill value in
     spin-stays (value == wanted) (whats.Granted grant, gone_on from.state) (whats.Again grant, from.state) grant e tt
-outcome-stays from u by.Local (Set name value) e =
-    either (may_name from.state name && is_legal name value)
-    (outcome_at from whats.Plain (gone_on (put from.state name value)) (empties from.state.active name))
-    (faulted from Gp) tt tt
-outcome-stays from u by.Local (Get name) e =
-    either (may_name from.state name)
-    (outcome_at from (whats.Value (get from.state name)) (gone_on from.state) []) (faulted from Gp) tt tt
-outcome-stays from u (by.Hit slot) op e =
-    either (may_enter from.state) (hit_outcome from (hit_note from op) slot)
-    (outcome_at from (whats.Hit Held) from.state []) tt tt
-outcome-stays from u by.Called op e =
-    either (may_call from.state) (plain from (called from.state)) (faulted from Undefined) tt tt
-outcome-stays from u (by.Returned pair) op e =
-    either (may_return from.state) (plain from (returned from.state pair)) (faulted from Undefined) tt tt
-outcome-stays from u (by.Denied slot) op e =
-    let refusal = refusal_of u.refusal in
-    either (may_enter from.state)
-    (denied_outcome from refusal (note_of from u.refusal.gva refusal) slot (done_by from (record u { op = op })))
-    (held_outcome from refusal (done_by from (record u { op = op }))) tt tt
-outcome-stays from u by.Polled op e =
-    let taken = with_taken from.controllers u.taken in
-    either (is_wanted from.state taken) (wanted_outcome from.state taken) (unwanted_outcome from.state taken) tt tt
-outcome-stays from u (by.Set target) op e =
-    let frame = frame_of (count_of from) (start_of from) in
-    slice-stays from _ _ (end_of frame (setting_refusals from.state.active target frame u.slice))
-outcome-stays from u (by.Eom slot) op e = eom-stays from slot
+outcome-stays from u by.Local (Set name value) e = search either
+outcome-stays from u by.Local (Get name) e = search either
+outcome-stays from u (by.Hit slot) op e = search either
+outcome-stays from u by.Called op e = search either
+outcome-stays from u (by.Returned pair) op e = search either
+outcome-stays from u (by.Denied slot) op e = search either
+outcome-stays from u by.Polled op e = search either
+outcome-stays from u (by.Set target) op e = search slice-stays
+outcome-stays from u (by.Eom slot) op e = search either
 outcome-stays from u _ _ e = record { is = tt }
 
 -- an attempt that was no spin in vain leaves a mark that stays

@@ -43,29 +43,33 @@ pub fn place_of(state: &VpState) -> (Vtl, u64)
     (state.levels.active(), rip_of(state))
 }
 
-/// Leaves the mark of an attempt that began at this level and place and came to this, in the state that it has led to.
-#[inline(always)]
-pub fn leave(
-    state: &VpState,
-    log: &mut Log,
-    lengths: &Lengths,
-    from: (Vtl, u64),
-    what: What,
-) -> Pace
-    requires may { MayMark log.old }
-    requires budget { log.old.marks.1 ≡ state.now.limits.budget }
-    ensures log { log.new ≡ marked_in log.old (mark_in log.old from.0 from.1 what)
-        (ending_of lengths.now state.now what log.old) }
-    ensures goes { log.new.ended ≡ None → rip_of state.now.state < length_at lengths.now state.now.state.active }
-    ensures has { HasRoom log.new }
-    ensures turn { (asked : Option Request) → turn_of result asked ≡ after_mark what log.new.ended }
-    ensures quiet { asks_by result ≡ false }
-{
-    let marks = log.marks.as_slice().len() + 1;
-    let ended = course_at(state, lengths, marks, log.spins).after(&what);
-    let pace = after_mark(&what, ended);
-    log.mark(from.0, from.1, what, ended);
-    pace
+impl Log {
+    /// Leaves the mark of an attempt that began at this level and place and came to this, in the state that it has led
+    /// to.
+    #[inline(always)]
+    pub fn leave(
+        &mut self,
+        state: &VpState,
+        lengths: &Lengths,
+        from: (Vtl, u64),
+        what: What,
+    ) -> Pace
+        requires may { MayMark self.old }
+        requires budget { self.old.marks.1 ≡ state.now.limits.budget }
+        ensures log { self.new ≡ marked_in self.old (mark_in self.old from.0 from.1 what)
+            (ending_of lengths.now state.now what self.old) }
+        ensures goes { self.new.ended ≡ None →
+            rip_of state.now.state < length_at lengths.now state.now.state.active }
+        ensures has { HasRoom self.new }
+        ensures turn { (asked : Option Request) → turn_of result asked ≡ after_mark what self.new.ended }
+        ensures quiet { asks_by result ≡ false }
+    {
+        let marks = self.marks.as_slice().len() + 1;
+        let ended = course_at(state, lengths, marks, self.spins).after(&what);
+        let pace = after_mark(&what, ended);
+        self.mark(from.0, from.1, what, ended);
+        pace
+    }
 }
 
 /// Leaves the mark that stays, where an attempt has come to its end, and does to the state what the attempt does.
@@ -87,7 +91,7 @@ pub fn leave_mark(state: &mut VpState, log: &mut Log, under: &Under, lengths: &L
 {
     let from = place_of(state);
     let what = state.finish(under);
-    leave(state, log, lengths, from, what)
+    log.leave(state, lengths, from, what)
 }
 
 /// Leaves the mark of a spin that found another value, and begins the attempt anew.

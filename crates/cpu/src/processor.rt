@@ -17,7 +17,7 @@ use crate::cpu_turn::{CpuTurn, Pace};
 use crate::endings::Course;
 use crate::lengths::{Lengths, rip_of};
 use crate::log::Log;
-use crate::marks::{course_at, leave, leave_again, leave_mark, place_of};
+use crate::marks::{course_at, leave_again, leave_mark, place_of};
 use attempt::{Next, Under, VpState};
 use fabric::Port;
 use register_file::Bank;
@@ -61,7 +61,7 @@ impl Cpu {
     ///
     /// # Errors
     /// `Memory` where there is no memory for that room, and for no other cause.
-    #[tactic(auto, unfolding(vsm_core::specs::State::opening_state, vsm_core::specs::Controllers::opening_controllers, vsm_core::specs::Processor::spin_limit))]
+    #[tactic(auto, unfolding(vsm_core::specs::State::opening_state, vsm_core::specs::Controllers::opening_controllers))]
     pub fn new(
         alloc: Global,
         vp: VpIndex,
@@ -390,13 +390,8 @@ impl Cpu {
         self.started = true;
         self.owes = false;
         let from = place_of(&self.state);
-        leave(
-            &self.state,
-            &mut self.log,
-            &self.lengths,
-            from,
-            What::Started,
-        )
+        self.log
+            .leave(&self.state, &self.lengths, from, What::Started)
     }
 
     /// Takes the reply to the request that the last turn answered. The attempt goes on by it, or comes to its end: RAX
