@@ -11,7 +11,7 @@ use vsm_core::Entry;
 
 // Adds a line of a number, where there is room.
 fn add_one(buffer: &mut TextBuffer, head: &[u8], n: u64)
-    requires { length buffer.old + length head.now + 21 ≤ 4096 }
+    requires { length buffer.old + length head.now + 21 ≤ 16384 }
     ensures { buffer.new ≡ buffer.old ++ one_text head.now n }
 {
     buffer.add(head);
@@ -35,7 +35,7 @@ fn put_one<K: Sink>(
 
 // Adds a line of two numbers, where there is room.
 fn add_two(buffer: &mut TextBuffer, head: &[u8], n: u64, m: u64)
-    requires { length buffer.old + length head.now + 42 ≤ 4096 }
+    requires { length buffer.old + length head.now + 42 ≤ 16384 }
     ensures { buffer.new ≡ buffer.old ++ two_text head.now n m }
 {
     buffer.add(head);

@@ -29,7 +29,7 @@ fn operation_at(script: &Script, vp: VpIndex, mark: &Mark) -> Option<Op>
 // Adds the place of a mark, where there is room.
 #[tactic(auto, unfolding(crate::specs::Marks::place_text))]
 fn add_place(buffer: &mut TextBuffer, vp: VpIndex, mark: &Mark, op: &Op)
-    requires { length buffer.old + 72 ≤ 4096 }
+    requires { length buffer.old + 72 ≤ 16384 }
     ensures { buffer.new ≡ buffer.old ++ place_text vp mark.now op.now }
 {
     buffer.add_decimal(vp.0 as u64);
@@ -64,7 +64,7 @@ fn put_bare<K: Sink>(sink: &mut K, buffer: &mut TextBuffer) -> Result<(), WriteF
 
 // Adds the word of a mask, where there is room.
 fn add_mask(buffer: &mut TextBuffer, mask: Option<Mask>)
-    requires { length buffer.old + 20 ≤ 4096 }
+    requires { length buffer.old + 20 ≤ 16384 }
     ensures text { buffer.new ≡ buffer.old ++ mask_word mask }
     ensures length { length buffer.new ≤ length buffer.old + 20 }
 {
@@ -76,7 +76,7 @@ fn add_mask(buffer: &mut TextBuffer, mask: Option<Mask>)
 
 // Adds what an access that was granted tells, where there is room.
 fn add_valued(buffer: &mut TextBuffer, head: &[u8], grant: &Grant)
-    requires { length buffer.old + length head.now + 97 ≤ 4096 }
+    requires { length buffer.old + length head.now + 97 ≤ 16384 }
     ensures { buffer.new ≡ buffer.old ++ valued_text head.now grant.now }
 {
     buffer.add(head);

@@ -9,9 +9,9 @@ use crate::digits;
 use std::marker::Model;
 use vsm_base::{Sink, WriteFailed, put_whole};
 
-const CAPACITY: usize = 4096;
+const CAPACITY: usize = 16384;
 
-/// Text on its way to a sink, of which at most 4,096 bytes are held. Contracts see the bytes that are held. It
+/// Text on its way to a sink, of which at most 16,384 bytes are held. Contracts see the bytes that are held. It
 /// takes no memory. This project's own.
 #[derive(Drop)]
 pub struct TextBuffer {
@@ -26,7 +26,7 @@ impl Model for TextBuffer {
 
     ghost view = { λ b. take b.held b.bytes };
 
-    ghost invariant = { λ b. b.held ≤ 4096 };
+    ghost invariant = { λ b. b.held ≤ 16384 };
 }
 
 impl TextBuffer {
@@ -55,9 +55,9 @@ impl TextBuffer {
     /// Sees to it that there is room for so many bytes more: where there isn't, it hands what is held to the sink.
     /// `WriteFailed` at the first write that fails, and then a front of what was held was written.
     pub fn make_room<K: Sink>(&mut self, sink: &mut K, room: usize) -> Result<(), WriteFailed>
-        requires { room ≤ 4096 }
+        requires { room ≤ 16384 }
         ensures gathers { Gathers (K.taken sink.old) self.old (K.taken sink.new) self.new (K.faults sink.old) (K.faults sink.new) result [] }
-        ensures room { OnOk result (length self.new + room ≤ 4096) }
+        ensures room { OnOk result (length self.new + room ≤ 16384) }
     {
         if room > CAPACITY - self.held {
             self.flush(sink)?;
@@ -67,7 +67,7 @@ impl TextBuffer {
 
     /// Adds a byte behind what is held, where there is room.
     pub fn add_byte(&mut self, byte: u8)
-        requires { length self.old + 1 ≤ 4096 }
+        requires { length self.old + 1 ≤ 16384 }
         ensures text { self.new ≡ self.old ++ byte ∷ [] }
         ensures length { length self.new ≡ length self.old + 1 }
     {
@@ -77,7 +77,7 @@ impl TextBuffer {
 
     /// Adds text behind what is held, where there is room.
     pub fn add(&mut self, text: &[u8])
-        requires { length self.old + length text.now ≤ 4096 }
+        requires { length self.old + length text.now ≤ 16384 }
         ensures text { self.new ≡ self.old ++ text.now }
         ensures length { length self.new ≡ length self.old + length text.now }
     {
@@ -88,7 +88,7 @@ impl TextBuffer {
 
     /// Adds a number in decimal digits behind what is held, where there is room.
     pub fn add_decimal(&mut self, n: u64)
-        requires { length self.old + 20 ≤ 4096 }
+        requires { length self.old + 20 ≤ 16384 }
         ensures text { self.new ≡ self.old ++ decimal n }
         ensures length { length self.new ≤ length self.old + 20 }
     {
@@ -105,7 +105,7 @@ impl TextBuffer {
 
     /// Adds the last 16 hexadecimal digits of a number behind what is held, where there is room.
     pub fn add_hex(&mut self, n: u64)
-        requires { length self.old + 16 ≤ 4096 }
+        requires { length self.old + 16 ≤ 16384 }
         ensures text { self.new ≡ self.old ++ hex_digits 16 n }
         ensures length { length self.new ≡ length self.old + 16 }
     {

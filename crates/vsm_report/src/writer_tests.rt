@@ -451,12 +451,12 @@ fn writes_what_eight_processors_leave(rt: HostRuntime) -> Result<(), Fail> {
     Ok(())
 }
 
-// 200 lines of 28 or 29 bytes: two writes, of which the first takes 4,096 bytes.
+// 600 lines of 28 to 30 bytes: two writes, of which the first takes 16,384 bytes.
 #[test]
 fn writes_when_the_buffer_is_full_and_at_the_end(rt: HostRuntime) -> Result<(), Fail> {
     let alloc = rt.alloc();
     let script = script(alloc, 1, one_program(alloc)?)?;
-    let words = vec![in alloc; 1; 200]?;
+    let words = vec![in alloc; 1; 600]?;
     let report = report(
         alloc,
         Items::new(alloc),
@@ -464,27 +464,27 @@ fn writes_when_the_buffer_is_full_and_at_the_end(rt: HostRuntime) -> Result<(), 
         Items::new(alloc),
         words,
     );
-    let mut sink = MemSink::new(vec![in alloc; 0; 8192]?, vec![in alloc; 3]?, 4096);
+    let mut sink = MemSink::new(vec![in alloc; 0; 20000]?, vec![in alloc; 3]?, 16384);
     let put = write(&report, &script, &mut sink);
     assert!(rt; put.is_ok());
-    assert_eq!(rt; sink.taken().len(), 19 + 10 * 28 + 90 * 29 + 100 * 30 + 6);
+    assert_eq!(rt; sink.taken().len(), 19 + 20 * 28 + 168 * 29 + 412 * 30 + 6);
     Ok(())
 }
 
 #[test]
 fn a_buffer_reaches_its_sink_in_two_calls(rt: HostRuntime) -> Result<(), Fail> {
     let alloc = rt.alloc();
-    let mut text = vec![in alloc; b'a'; 4500]?;
-    text.resize(5000, b'b')?;
-    let mut sink = MemSink::new(vec![in alloc; 0; 6000]?, vec![in alloc; 3]?, 4096);
+    let mut text = vec![in alloc; b'a'; 17000]?;
+    text.resize(18000, b'b')?;
+    let mut sink = MemSink::new(vec![in alloc; 0; 20000]?, vec![in alloc; 3]?, 16384);
     let mut buffer = TextBuffer::new();
     assert!(rt; buffer.put(&mut sink, &text).is_ok());
-    assert_eq!(rt; sink.taken().len(), 4096);
+    assert_eq!(rt; sink.taken().len(), 16384);
     assert!(rt; buffer.flush(&mut sink).is_ok());
     assert_eq!(rt; sink.taken(), text.as_slice());
     assert!(rt; buffer.put(&mut sink, b"c").is_ok());
     assert!(rt; buffer.flush(&mut sink).is_err());
     assert!(rt; buffer.flush(&mut sink).is_ok());
-    assert_eq!(rt; sink.taken().len(), 5001);
+    assert_eq!(rt; sink.taken().len(), 18001);
     Ok(())
 }
