@@ -103,7 +103,7 @@ all-active target s [] = refl
 all-active target s (x ∷ elements) = all-active target (set_one target s x) elements ∙ named-active target s (register_of x.number) x.value
 
 -- the words that such a call has read
-two-words : (header words : List ℕ) → length header ≡ 2 → (take 2 (header ++ words) ≡ header) × (drop 2 (header ++ words) ≡ words)
+pub two-words : (header words : List ℕ) → length header ≡ 2 → (take 2 (header ++ words) ≡ header) × (drop 2 (header ++ words) ≡ words)
 two-words [] words e = absurd (omega arith)
 two-words (x ∷ []) words e = absurd (omega arith)
 two-words (x ∷ y ∷ []) words e = (refl, refl)

@@ -4,5 +4,7 @@ pub mod DeniedStarts
 pub mod FewChanges
 pub mod PageWords
 pub mod Reading
+pub mod RefusedAtOnce
+pub mod RefusedCalls
 pub mod SetCalls
 pub mod SliceElements

@@ -35,7 +35,7 @@ code-among : (list : List Row) (code : ℕ) (row : Row) → find (λ (r : Row). 
 code-among [] code row e = cc
 code-among (r ∷ list) code row e = found-code (r.code == code) code r row (find (λ (r : Row). r.code == code) list) (λ t. grind (arith, nat_tests)) (code-among list code row) e
 
-row-code : (code : ℕ) (row : Row) → row_of code ≡ Some row → row.code ≡ code
+pub row-code : (code : ℕ) (row : Row) → row_of code ≡ Some row → row.code ≡ code
 unfolding row_of
 row-code code row e = code-among rows code row e
 

@@ -1,4 +1,5 @@
 pub mod Changes
 pub mod InputWords
 pub mod ReadWords
+pub mod Refusals
 pub mod Starts
