@@ -1,5 +1,6 @@
 // One processor acts.
-ghost use Rattle.std.specs.Prelude.{◌≡◌, ◌≢◌, ℕ, ◌+◌, ◌*◌, ◌≤◌, ◌<◌, [], ◌∷◌, ◌++◌, length, map, get_or, true, false, None};
+ghost use Rattle.std.specs.Prelude.{◌≡◌, ◌≢◌, ℕ, ◌+◌, ◌*◌, ◌≤◌, ◌<◌, [], ◌∷◌, ◌++◌, length, map, get_or, true, false, None, Some};
+ghost use Rattle.vsm_core.specs.declared.request.Request.{Request};
 ghost use Rattle.vsm_core.specs.Entries.{words_by_entries};
 ghost use Rattle.vsm_core.specs.Hypercalls.{asked_of};
 ghost use Rattle.vsm_core.specs.Processor.{asking, operation_at, origin_of, standing, start_rest};
@@ -8,6 +9,7 @@ ghost use Rattle.vsm_core.specs.Served.{answer, block};
 ghost use Rattle.cpu.specs.Turns.{asked_next, asks_by, phase_at, turn_of};
 ghost use Rattle.vsm_report.specs.Acting.{attempt_lines, entry_line, mark_line};
 ghost use Rattle.vsm_report.specs.Trace.{made_steps};
+ghost use Rattle.vsm_run.specs.Asked.{HasAsked, MayServe};
 ghost use Rattle.vsm_run.specs.Fits.{FitsOne};
 ghost use Rattle.vsm_run.specs.Rests.{AllIdle, IsAtRest, IsInPlace};
 ghost use Rattle.vsm_run.specs.Serving.{AddsFew, Agrees, HasRoomForOne, IsDone, IsFree, IsPacedBy, NoneBusy, with_served};
@@ -76,6 +78,28 @@ fn serve(partition: &mut Partition, fabric: &mut PlainFabric, request: Request) 
     }
 }
 
+// Lets the partition serve what a processor asks, and the processor take the reply: whether its attempt then goes on.
+// It isn't part of an attempt's function, whose locals are cleared at each call.
+#[inline(never)]
+fn ask_at(fabric: &mut PlainFabric, partition: &mut Partition, cpu: &mut Cpu) -> bool
+    requires owes { cpu.old.owes ≡ true }
+    requires serves { (q : Request) → asked_next cpu.old ≡ Some q → IsSlice q.call → MayServe q fabric.old.limits partition.old fabric.old.fabric.words }
+    requires paced { IsPacedBy partition.old fabric.old }
+    ensures asked { HasAsked fabric.old.limits result cpu.old cpu.new partition.old partition.new fabric.old.fabric.words fabric.new.fabric.words }
+    ensures limits { fabric.new.limits ≡ fabric.old.limits }
+    ensures phases { fabric.new.fabric.phases ≡ fabric.old.fabric.phases }
+    ensures phase { phase_at cpu.new.seen cpu.new.first ≡ phase_at cpu.old.seen cpu.old.first }
+    ensures idle { NoneBusy fabric.old.limits fabric.new.fabric.words }
+    ensures paced { IsPacedBy partition.new fabric.new }
+{
+    let request = cpu.wanted();
+    let reply = serve(partition, fabric, request);
+    match cpu.accept(reply) {
+        CpuTurn::Moved => true,
+        _ => false,
+    }
+}
+
 // Lets a processor make its attempt to the end: its steps, and on with the reply to its request, if it has one. No other
 // processor acts meanwhile.
 fn attempt_at(fabric: &mut PlainFabric, partition: &mut Partition, cpu: &mut Cpu, program: &Program)
@@ -101,11 +125,9 @@ fn attempt_at(fabric: &mut PlainFabric, partition: &mut Partition, cpu: &mut Cpu
         match turn_at(fabric, cpu, program) {
             Pace::Moved => {}
             Pace::Wants => {
-                let request = cpu.wanted();
-                let reply = serve(partition, fabric, request);
-                match cpu.accept(reply) {
-                    CpuTurn::Moved => {}
-                    _ => return,
+                let goes_on = ask_at(fabric, partition, cpu);
+                if !goes_on {
+                    return;
                 }
             }
             _ => return,

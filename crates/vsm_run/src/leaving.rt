@@ -1,5 +1,5 @@
 // What a run leaves.
-ghost use Rattle.std.specs.Prelude.{◌≡◌, ◌+◌, ◌≤◌, ◌++◌, IfOk, IsTrue, length, map, take, drop};
+ghost use Rattle.std.specs.Prelude.{◌≡◌, ◌+◌, ◌*◌, ◌≤◌, ◌++◌, IfOk, IsTrue, length, map, take, drop};
 ghost use Rattle.fabric.specs.Plain.{HasMasks};
 ghost use Rattle.vsm_base.specs.Masks.{is_mask};
 ghost use Rattle.vsm_core.specs.Words.{memory_at};
@@ -19,19 +19,20 @@ pub struct Rooms {
     pub tracks: Reserved<Track>,
     pub ends: Reserved<Ending>,
     pub masks: Reserved<Mask>,
-    pub words: Reserved<u64>,
+    pub words: Vec<u64>,
 }
 
 impl Rooms {
-    /// Room for what processors and words of these limits leave.
-    pub fn new(alloc: Global, limits: &Limits) -> Result<Rooms, Memory>
+    /// Room for what processors and words of these limits leave; that of the memory words is this `Vec`, whatever it has.
+    pub fn new(alloc: Global, limits: &Limits, words: Vec<u64>) -> Result<Rooms, Memory>
+        requires { length words.items ≡ 512 * limits.now.pages }
         ensures { IfOk result (λ rooms. HasRooms rooms limits.now.vps limits.now) }
     {
         Ok(Rooms {
             tracks: Reserved::new(alloc, limits.vps as usize)?,
             ends: Reserved::new(alloc, limits.vps as usize)?,
             masks: Reserved::new(alloc, limits.pages as usize)?,
-            words: Reserved::new(alloc, 512 * limits.pages as usize)?,
+            words,
         })
     }
 }
@@ -53,15 +54,6 @@ fn add_masks(words: &[u64], masks: &mut Reserved<Mask>)
 {
     for word in words {
         masks.push(mask_of(*word));
-    }
-}
-
-fn add_words(words: &[u64], memory: &mut Reserved<u64>)
-    requires room { length memory.old.0 + length words.now ≤ memory.old.1 }
-    ensures { memory.new ≡ (memory.old.0 ++ words.now, memory.old.1) }
-{
-    for word in words {
-        memory.push(*word);
     }
 }
 
@@ -110,10 +102,9 @@ pub fn left(
 {
     let words = fabric.words();
     add_masks(&words[..limits.pages as usize], &mut rooms.masks);
-    add_words(
-        &words[Layout::of(limits).memory as usize..],
-        &mut rooms.words,
-    );
+    rooms
+        .words
+        .copy_from_slice(&words[Layout::of(limits).memory as usize..]);
     add_ends(&cpus, &mut rooms.ends, &[]);
     add_tracks(cpus, &mut rooms.tracks);
     Report {
@@ -123,6 +114,6 @@ pub fn left(
         tracks: rooms.tracks.into_items(),
         ends: rooms.ends.into_items(),
         masks: rooms.masks.into_items(),
-        words: rooms.words.into_items(),
+        words: Items::from_vec(rooms.words),
     }
 }

@@ -10,7 +10,7 @@ ghost use Rattle.vsm_core.specs.Served.{AreServed, joined};
 ghost use Rattle.vsm_core.specs.Words.{memory_at};
 ghost use Rattle.vsm_report.specs.Acting.{report_with};
 ghost use Rattle.vsm_report.specs.FlatRun.{flat, served};
-ghost use Rattle.vsm_report.specs.Opening.{opening_masks};
+ghost use Rattle.vsm_report.specs.Opening.{opening_masks, opening_words};
 ghost use Rattle.vsm_report.specs.Schedule.{after_line, after_schedule, after_turns};
 ghost use Rattle.vsm_report.specs.Trace.{stepped, stepped_opening, stepped_report, traced};
 ghost use Rattle.vsm_run.specs.Fits.{Fits};
@@ -153,16 +153,17 @@ fn lines_of(limits: &Limits, turns: usize) -> usize
 // A run before its first turn, with room for the lines of each turn: that of its mark, those of the entries of one request, and
 // once one more for each page.
 #[tactic(auto, unfolding(vsm_report::specs::Trace::stepped_opening, vsm_report::specs::Trace::opening_shared))]
-fn opened(alloc: Global, script: &Script) -> Result<Run, Memory>
-    requires { IsWithin script.now }
+fn opened(alloc: Global, script: &Script, words: &[u64]) -> Result<Run, Memory>
+    requires within { IsWithin script.now }
+    requires words { words.now ≡ opening_words script.now }
+    requires all { length words.now ≡ 512 * script.now.limits.pages }
     ensures world { IfOk result (λ run. run.world ≡ stepped_opening script.now) }
     ensures room { IfOk result (λ run. length run.world.lines + owed run.world.partition.state + (script.now.limits.vps + 12) * all_turns script.now.schedule ≤ run.room) }
     ensures limits { IfOk result (λ run. run.limits ≡ script.now.limits) }
     ensures fits { IfOk result (λ run. Fits script.now.programs run.world.vps) }
 {
     let masks = opening_masks(alloc, script)?;
-    let words = opening_words(alloc, script)?;
-    let fabric = PlainFabric::new(alloc, &script.limits, &masks, &words)?;
+    let fabric = PlainFabric::new(alloc, &script.limits, &masks, words)?;
     let partition = Partition::new(alloc, &script.limits, &masks, script.started)?;
     let cpus = opening_cpus(alloc, script)?;
     let turns = all_turns(script.schedule.as_slice());
@@ -191,8 +192,9 @@ pub fn trace(alloc: Global, script: &Script) -> Result<Report, Memory>
     ensures whole { IfOk result (λ report. IsWhole script.now.limits.vps report.journal) }
     ensures masks { IfOk result (λ report. report.masks ≡ masks (opening_masks script.now) report.journal) }
 {
-    let mut run = opened(alloc, script)?;
-    let rooms = Rooms::new(alloc, &script.limits)?;
+    let words = opening_words(alloc, script)?;
+    let mut run = opened(alloc, script, &words)?;
+    let rooms = Rooms::new(alloc, &script.limits, words)?;
     run.schedule(script.programs.as_slice(), script.schedule.as_slice());
     Ok(run.into_report(&script.limits, rooms))
 }

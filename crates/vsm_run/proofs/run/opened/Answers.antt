@@ -19,14 +19,14 @@ invariant_of-result c =
     let part = c.in_ok-partition.ensures in
     let limits : c.in_ok-fabric.fabric.limits ≡ s.limits = ap (λ (f : Plain). f.limits) first in
     let many : length (opening_view s.limits c.in_ok-masks.masks.items s.started).state.vps ≡ s.limits.vps = length-map-range_with_len (opening_standing s.started) 0 s.limits.vps in
-    let each : AllInPlace s.limits (opening_vps s) = opening-in-place s c.requires.programs c.requires.budget_some in
+    let each : AllInPlace s.limits (opening_vps s) = opening-in-place s c.requires.within.programs c.requires.within.budget_some in
     record {
       idle = subst (λ (f : Plain). AllIdle f.fabric.phases) (sym first) (all_idle s.limits.vps);
       each = rw (limits, c.in_ok-cpus.ensures) each;
       agrees = subst (λ (f : Plain). Agrees f.limits f.fabric) (sym first) (first-agrees s.limits _ _ (ap length c.deref.ensures.value ∙ c.in_ok-masks.ensures.all));
       free = rw (limits, part) (record { free = refl; vps_all = many; pages_all = refl });
-      paced = rw (first, part) (first-paced s.limits _ _ _ s.started (ap length c.deref-3.ensures.value ∙ c.in_ok-masks.ensures.all));
-      room = rw (c.in_ok-cpus.ensures, part) (room-at-first s.limits (opening_vps s) (opening_view s.limits c.in_ok-masks.masks.items s.started) each (length-opening_vps s ∙ c.requires.programs) many (omega arith) refl refl);
+      paced = rw (first, part) (first-paced s.limits _ _ _ s.started (ap length c.deref-2.ensures.value ∙ c.in_ok-masks.ensures.all));
+      room = rw (c.in_ok-cpus.ensures, part) (room-at-first s.limits (opening_vps s) (opening_view s.limits c.in_ok-masks.masks.items s.started) each (length-opening_vps s ∙ c.requires.within.programs) many (omega arith) refl refl);
     }
 
 pub returns-clause-fits : goal.returns-clause-fits
